@@ -1,0 +1,11 @@
+pub mod Disk
+pub mod Deals
+pub mod Promise
+pub mod Books
+pub mod Writes
+pub mod Rows
+pub mod Tables
+pub mod LineUps
+pub mod Refusals
+pub mod Examples
+pub mod Stub

@@ -1,0 +1,6 @@
+pub mod Batch
+pub mod Changed
+mod Words
+pub mod Slots
+pub mod Tables
+pub mod Shown

@@ -1,0 +1,4 @@
+pub mod Words
+pub mod Circle
+pub mod Going
+pub mod Parts

@@ -1,0 +1,4 @@
+pub mod Lines
+pub mod Rings
+pub mod Marks
+pub mod Tables

@@ -1,0 +1,4 @@
+pub mod Sets
+pub mod Graphs
+pub mod Chosen
+pub mod Bars

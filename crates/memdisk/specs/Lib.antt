@@ -1,0 +1,4 @@
+pub mod Layout
+pub mod Mixing
+pub mod Dues
+pub mod Memory

@@ -1,0 +1,3 @@
+pub mod Cutting
+pub mod Seating
+pub mod Turning

@@ -1,0 +1,14 @@
+pub mod Spent
+pub mod Kids
+pub mod Down
+pub mod Alike
+pub mod Parts
+pub mod Steps
+pub mod Growth
+pub mod Crown
+pub mod Twin
+pub mod Falls
+pub mod Amends
+pub mod Settle
+pub mod Base
+pub mod Sizes

@@ -1,0 +1,4 @@
+pub mod State
+pub mod Tree
+pub mod Grow
+pub mod Shrink

@@ -1,0 +1,9 @@
+pub mod Found
+pub mod Done
+pub mod Looks
+pub mod Upkeeps
+pub mod Onward
+pub mod Filed
+pub mod Asking
+pub mod Tabled
+pub mod Applying
