@@ -207,8 +207,38 @@ fn fall(
     tell(rt, "dropped from the back", marks, none, model)
 }
 
-// Drops every key from the back, puts them all rising, and drops them from the front.
-fn rise(
+// Drops every key from the front, and goes on with falling rows.
+fn drop_front(
+    rt: &LibcRuntime,
+    marks: &mut [u64],
+    words: &mut [u64],
+    model: &mut [u64],
+    g: Game,
+) -> io::Result<()>
+    requires { ⌜ Ready (now marks) (now words) g ⌝ ∗ ⌜ 0 < length (now model) ⌝ }
+{
+    let none = clear(marks, words, g, model, false);
+    tell(rt, "dropped from the front", marks, none, model)?;
+    fall(rt, marks, words, model, none)
+}
+
+// Puts every key rising, and goes on.
+fn put_rising(
+    rt: &LibcRuntime,
+    marks: &mut [u64],
+    words: &mut [u64],
+    model: &mut [u64],
+    g: Game,
+) -> io::Result<()>
+    requires { ⌜ Ready (now marks) (now words) g ⌝ ∗ ⌜ 0 < length (now model) ⌝ }
+{
+    let full = fill(marks, words, g, model, false);
+    tell(rt, "put rising", marks, full, model)?;
+    drop_front(rt, marks, words, model, full)
+}
+
+// Drops every key from the back, and goes on.
+fn drop_back(
     rt: &LibcRuntime,
     marks: &mut [u64],
     words: &mut [u64],
@@ -219,11 +249,7 @@ fn rise(
 {
     let none = clear(marks, words, g, model, true);
     tell(rt, "dropped from the back", marks, none, model)?;
-    let full = fill(marks, words, none, model, false);
-    tell(rt, "put rising", marks, full, model)?;
-    let again = clear(marks, words, full, model, false);
-    tell(rt, "dropped from the front", marks, again, model)?;
-    fall(rt, marks, words, model, again)
+    put_rising(rt, marks, words, model, none)
 }
 
 // Rows at random keys, with different shares of puts, and then the others.
@@ -245,7 +271,7 @@ fn rows(
         g = mix(marks, words, g, model, 50000, shares[j]);
         tell(rt, "at random", marks, g, model)?;
     }
-    rise(rt, marks, words, model, g)
+    drop_back(rt, marks, words, model, g)
 }
 
 fn play(
