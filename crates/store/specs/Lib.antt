@@ -1,0 +1,4 @@
+pub mod Medium
+pub mod Head
+pub mod State
+pub mod Store
