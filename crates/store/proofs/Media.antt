@@ -10,7 +10,7 @@ use lib.ListN.{length, getD, take, drop, replicate}
 use Rattle.store.specs.declared.head.Record.{Record}
 use Rattle.store.specs.Medium.{Medium, at, over, Stays, Reads, Wrote, Synced, WroteAll, Back, Blank}
 use Rattle.store.specs.Head.{Head, headOf, Sound, recordsIn, slot, ringPage, target}
-use Rattle.store.specs.State.{State, rows, queueBy, pageBy, stateBy, stateOf, Same, Relies, Firm, Safe, Installed, Kept, Rested, Cut}
+use Rattle.store.specs.State.{State, rows, queueBy, pageBy, stateBy, stateOf, Same, Relies, Firm, Safe, Installed, Kept, Rested, Cut, empty}
 use Rattle.store.proofs.Over.{at-here, at-other, over-agree, over-miss}
 
 pub same-refl : {n : ℕ} (x : State) → Same n x x
@@ -88,3 +88,21 @@ safe-like m e s n z first firm = record {
 -- at rest, a disk is safe
 pub rested-safe : {m : Medium} → Rested m → Safe m
 rested-safe {m} r = record { big = r .big; head = r .head; first = r .all 0 (omega (arith, r .big)); firm = λ p q. r .all p (relies-near (r .big) (r .head) q .1) }
+
+-- whatever comes back of a disk that is safe is at rest, and means what it did
+pub safe-back : (m f : Medium) → Safe m → Back m f → Rested f × Same (m .pages) (stateOf (f .shown)) (stateOf (m .shown))
+safe-back m f s b = back-means m m f _ (s .big) refl (s .head) (s .firm) b (ap headOf (s .first _ (b .each 0 (omega (arith, s .big)))))
+
+-- a blank disk is at rest, and means the empty state
+pub blank-rested : (m : Medium) → Blank m → Rested m
+unfolding headOf recordsIn
+blank-rested m b = record {
+  big = omega (arith, b .big);
+  head = subst (λ w. Sound (m .pages) (headOf w)) (sym (b .shown 0 (omega (arith, b .big)))) (record
+      { few = omega arith; side = omega arith; far = λ k l. absurd (omega arith); near = λ k l. absurd (omega arith); turn = omega arith; room = omega arith; brim = omega arith; done = omega arith; less = omega arith });
+  all = λ p l x i. b .may p x i ∙ sym (b .shown p l);
+}
+
+pub blank-empty : (m : Medium) → Blank m → Same (m .pages) (stateOf (m .shown)) empty
+unfolding headOf recordsIn rows over
+blank-empty m b = same-trans (by-head (m .shown) (ap headOf (b .shown 0 (omega (arith, b .big))))) (record { root = refl; queue = refl; page = λ p _ l. b .shown p l })

@@ -8,18 +8,19 @@ use native.Mathlib.Omega.{arith}
 use lib.Dec.{T}
 use lib.ListN.{length, getD, set}
 use lib.Seq.{getD-set-same, getD-set-other}
-use Rattle.std.proofs.shelf.Tests.{cases-eq}
+use Rattle.std.proofs.shelf.Tests.{cases-eq, eq-eqb, ne-eqb}
 use Rattle.frames.specs.Layout.{Cache, cacheOf}
-use Rattle.frames.specs.Frames.{Sound as Framed, Clean, Idle, pageIn, markIn, entryIn, pinned, batchWords, shownBy, slotOf, fill}
+use Rattle.frames.specs.Frames.{Sound as Framed, Clean, Idle, pageIn, markIn, entryIn, pinned, batchWords, shownBy, slotOf, fill, enter, list, write}
 use Rattle.std.specs.declared.option.Option.the-variants.{Some, None}
 use Rattle.frames.specs.Layout.{frameIn}
 use Rattle.frames.proofs.Slots.{rows, frame-other}
 use Rattle.frames.proofs.Shown.{shown-frame, shown-disk}
 use Rattle.store.specs.declared.Store.{Store}
-use Rattle.store.specs.Medium.{Medium, Stays, Reads}
+use Rattle.store.specs.declared.head.Root.{Root}
+use Rattle.store.specs.Medium.{Medium, Stays, Reads, at}
 use Rattle.store.specs.Head.{Head, headOf, slotIn}
 use Rattle.store.specs.State.{Safe, Kept}
-use Rattle.store.specs.Store.{nextOf, next, framesOf, cache, Next, Ready, Imaged, Intact, Looked, Got}
+use Rattle.store.specs.Store.{nextOf, next, framesOf, cache, Next, Ready, Imaged, Intact, Looked, Got, Staged, Given, withFree, withUsed}
 
 -- a disk that differs only in whether it's on, and how often it may be asked
 module _ (m : Medium) (on' : Bool) (left' : ℕ) where
@@ -101,4 +102,50 @@ got-disk m e part after s x b n r l = record {
   view = l .view ∙ ap (λ f. shownBy (cache part) f) (r .shown);
   count = l .count;
   left = r .left;
+}
+
+-- to enter a frame in the batch leaves the pages and the pins as they are
+pub entered-like : (c : Cache) (i : ℕ) → (enter c i .pages ≡ c .pages) × (enter c i .pins ≡ c .pins) × (enter c i .count ≤ c .count + 1)
+entered-like c i = ⊎-elim
+    (λ (z : markIn c i ≡ 0). rw (eq-eqb (markIn c i) 0 z) (refl, refl, omega arith))
+    (λ (nz : markIn c i ≡ 0 → ⊥). rw (ne-eqb (markIn c i) 0 nz) (refl, refl, omega arith))
+    (cases-eq (markIn c i) 0)
+
+-- frames were changed, and no images stand
+pub intact-changed : (m : Medium) (part after : List ℕ) (s : Store) → Intact m part s → T (not (s .imaged)) → length after ≡ 62976 → nextOf after ≡ nextOf part → Framed (framesOf after) → Clean (cache after) (m .shown) →
+    ((j : ℕ) → j < 120 → 0 < pageIn (cache after) j → (393 ≤ pageIn (cache after) j) × (pageIn (cache after) j < m .pages)) → pinned (cache after) ≡ 0 → Intact m after s
+intact-changed m part after s i no' l n t cl pl pi = record
+    { long = l; ready = subst (λ v. Ready m (headOf v) (s .fresh)) (sym n) (i .ready); table = t; clean = cl; plain = pl; pins = pi; images = λ y. absurd (both (s .imaged) y no') }
+  where
+    both : (b : Bool) → T b → T (not b) → ⊥
+    both true y z = z
+    both false y z = y
+
+-- the pages of the frames with page p in frame k
+pub plain-set : (m : Medium) (ps : List ℕ) (k p : ℕ) → length ps ≡ 120 → k < 120 → 393 ≤ p → p < m .pages → ((j : ℕ) → j < 120 → 0 < getD ps j 0 → (393 ≤ getD ps j 0) × (getD ps j 0 < m .pages)) →
+    (j : ℕ) → j < 120 → 0 < getD (set ps k p) j 0 → (393 ≤ getD (set ps k p) j 0) × (getD (set ps k p) j 0 < m .pages)
+plain-set m ps k p l low far near old j b u = ⊎-elim
+    (λ (e : j ≡ k). let q : getD (set ps k p) j 0 ≡ p = ap (λ x. getD (set ps k p) x 0) e ∙ getD-set-same ps k p 0 (omega arith) in (omega (arith, q), omega (arith, q)))
+    (λ (ne : j ≡ k → ⊥). let q = getD-set-other ps k j p 0 ne in let o = old j b (subst (λ x. 0 < x) q u) in (subst (λ x. 393 ≤ x) (sym q) (o .0), subst (λ x. x < m .pages) (sym q) (o .1)))
+    (cases-eq j k)
+
+-- the root and what is worked in don't matter to it
+pub intact-root : (m : Medium) (part : List ℕ) (s : Store) (r : Root) → Intact m part s → Intact m part (record { fresh = s .fresh; imaged = s .imaged; lasted = s .lasted; root = r; worked = s .worked })
+intact-root m part s r i = record { long = i .long; ready = i .ready; table = i .table; clean = i .clean; plain = i .plain; pins = i .pins; images = i .images }
+
+pub given-new : (m : Medium) (part : List ℕ) (s : Store) → Intact m part s → s .root .free ≡ 0 → Given m part s (393 + s .root .used) m part (withUsed s (s .root .used + 1))
+given-new m part s i z = record
+    { pages = refl; shown = refl; intact = intact-root m part s _ i; head = refl; view = refl; count = refl; new = λ _. (refl, refl); old = λ no'. absurd (no' z); left = omega arith }
+
+pub given-old : (m e : Medium) (part after : List ℕ) (s : Store) (b : List ℕ) (f : ℕ) → (s .root .free ≡ 0 → ⊥) → Got m part s (s .root .free) b e after → f ≡ getD b 0 0 → Given m part s (s .root .free) e after (withFree s f)
+given-old m e part after s b f nz y ef = record {
+  pages = y .pages;
+  shown = y .shown;
+  intact = intact-root e after s _ (y .intact);
+  head = y .head;
+  view = y .view;
+  count = y .count;
+  new = λ z. absurd (nz z);
+  old = λ _. (refl, ap (withFree s) (ef ∙ ap (λ w. getD w 0 0) (y .words)));
+  left = y .left;
 }

@@ -5,7 +5,7 @@ use mathlib.Core.Bool.{Bool, true, false, cond, not}
 use mathlib.Core.List.{List, [], _∷_, _++_, List·Memᴰ}
 use Prim.Native.Nat.{ℕ, zero, suc, _+_, _-_, _*_, _<_, _≤_}
 use lib.Dec.{T}
-use lib.ListN.{length, getD, take, drop}
+use lib.ListN.{length, getD, take, drop, replicate}
 use Rattle.store.specs.declared.head.Record.{Record}
 use Rattle.store.specs.declared.head.Root.{Root}
 use Rattle.store.specs.Medium.{Medium, Stays, Back, over}
@@ -75,3 +75,7 @@ pub record Cut (n : ℕ) (P : State → Type 0) (e : Medium) : Type 0 where
   pub off : e .on ≡ false
   pub pages : e .pages ≡ n
   pub back : (f : Medium) → Back e f → Rested f × P (stateOf (f .shown))
+
+-- no tree, no queue, and noughts everywhere
+abbrev pub empty : State
+empty = record { root = record { page = 0; height = 0; pairs = 0; free = 0; used = 0 }; queue = []; page = λ _. replicate 512 0 }

@@ -219,3 +219,29 @@ pub record Got (m : Medium) (p : List ℕ) (s : Store) (x : ℕ) (b : List ℕ) 
 abbrev pub Gets : Medium → List ℕ → Store → ℕ → List ℕ → Bool → Medium → List ℕ → Type 0
 Gets m p s x b true e q = Got m p s x b e q
 Gets m p s x b false e q = Lost m e
+
+-- page x is b now, in a changed frame
+pub record Staged (m : Medium) (p : List ℕ) (s : Store) (x : ℕ) (b : List ℕ) (q : List ℕ) : Type 0 where
+  pub intact : Intact m q s
+  pub head : nextOf q ≡ nextOf p
+  pub view : shownBy (cache q) (m .shown) ≡ at x b (shownBy (cache p) (m .shown))
+  pub count : cache q .count ≤ cache p .count + 1
+
+-- another top of the free list, or another number of pages ever used
+abbrev pub withFree : Store → ℕ → Store
+withFree s f = record { fresh = s .fresh; imaged = s .imaged; lasted = s .lasted; worked = s .worked; root = record { page = s .root .page; height = s .root .height; pairs = s .root .pairs; free = f; used = s .root .used } }
+
+abbrev pub withUsed : Store → ℕ → Store
+withUsed s u = record { fresh = s .fresh; imaged = s .imaged; lasted = s .lasted; worked = s .worked; root = record { page = s .root .page; height = s .root .height; pairs = s .root .pairs; free = s .root .free; used = u } }
+
+-- page x came off the free list, or was never used
+pub record Given (m : Medium) (p : List ℕ) (s : Store) (x : ℕ) (e : Medium) (q : List ℕ) (z : Store) : Type 0 where
+  pub pages : e .pages ≡ m .pages
+  pub shown : e .shown ≡ m .shown
+  pub intact : Intact e q z
+  pub head : nextOf q ≡ nextOf p
+  pub view : shownBy (cache q) (e .shown) ≡ shownBy (cache p) (m .shown)
+  pub count : cache q .count ≡ cache p .count
+  pub new : s .root .free ≡ 0 → (x ≡ 393 + s .root .used) × (z ≡ withUsed s (s .root .used + 1))
+  pub old : (s .root .free ≡ 0 → ⊥) → (x ≡ s .root .free) × (z ≡ withFree s (getD (shownBy (cache p) (m .shown) (s .root .free)) 0 0))
+  pub left : m .left ≤ e .left + 1

@@ -1,6 +1,6 @@
 ghost use base.Fml.{GName};
 ghost use lib.Dec.{T};
-ghost use lib.ListN.{length};
+ghost use lib.ListN.{length, set, replicate};
 ghost use mathlib.Core.Bool.{Bool, true, false, not, _||_, _&&_};
 ghost use mathlib.Core.List.{List, _++_, _∷_, []};
 ghost use mathlib.Core.Path.{_≡_};
@@ -8,11 +8,11 @@ ghost use Prim.Native.Nat.{ℕ, _<_, _≤_, _+_, _-_};
 ghost use Rattle.std.specs.declared.option.Option.the-variants.{Some, None};
 ghost use Rattle.std.specs.Results.{isOk, Cases};
 ghost use Rattle.frames.specs.Layout.{cacheOf, frameIn, cleared};
-ghost use Rattle.frames.specs.Frames.{Sound as Framed, Clean, Idle, slotOf, pinned, shownBy, batchPage, batchWords, batchPages};
+ghost use Rattle.frames.specs.Frames.{Sound as Framed, Clean, Idle, slotOf, pageIn, pinned, shownBy, batchPage, batchWords, batchPages};
 ghost use Rattle.store.specs.Medium.{Medium, MayAsk, Reads, Wrote, Synced, WroteAll};
 ghost use Rattle.store.specs.Head.{Head, headOf, Sound, recordAt, ringPage, target, slot, slotIn, taken, begun, aimed, aiming, rooted, freed, stamped};
 ghost use Rattle.store.specs.State.{queueBy, Kept, Firm, Rested};
-ghost use Rattle.store.specs.Store.{next, nextOf, framesOf, scratchOf, Ready, Intact, Spills, Appends, Settles, Moves, Seals, Shoots, Takes, Opened, Lost, Looked, Gets, cache};
+ghost use Rattle.store.specs.Store.{next, nextOf, framesOf, scratchOf, Ready, Intact, Spills, Appends, Settles, Moves, Seals, Shoots, Takes, Opened, Lost, Looked, Gets, Staged, Given, withFree, cache};
 
 pub mod head;
 
@@ -22,6 +22,8 @@ use head::Root;
 const PAGE: usize = 512;
 // Where the next head stands in the part: behind the frames.
 const NEXT: usize = 120 * PAGE + PAGE;
+// The first data page of the disk.
+const DATA: u64 = 393;
 // And behind that a page to read into.
 const SCRATCH: usize = NEXT + PAGE;
 
@@ -496,4 +498,85 @@ pub fn read_page<D: Device>(
     d.read(p, into)?;
     keep(part, p, into);
     Ok(())
+}
+
+// New words for a page that stands in a frame.
+fn change_in(part: &mut [u64], slot: usize, p: u64, words: &[u64])
+    requires long { ⌜ length (now part) ≡ 62976 ⌝ }
+    requires table { ⌜ Framed (framesOf (now part)) ⌝ }
+    requires fits { ⌜ slot < 120 ⌝ ∗ ⌜ length (now words) ≡ 512 ⌝ }
+    requires there { ⌜ slotOf (cache (now part)) p ≡ Some slot ⌝ ∗ ⌜ 0 < pageIn (cache (now part)) slot ⌝ }
+    requires room { ⌜ cache (now part) .count < 64 ⌝ }
+    ensures staged { λ _. ⌜ ((m : Medium) (s : Store) → Intact m (now (part .entry)) s → T (not (s .imaged)) → 393 ≤ p → p < m .pages → Staged m (now (part .entry)) s p (now (words .entry)) (now (part .exit))) ⌝ }
+{
+    frames::change(&mut part[..NEXT], slot, words);
+}
+
+// A page with new words into an idle frame.
+fn stage_in(part: &mut [u64], slot: usize, p: u64, words: &[u64])
+    requires long { ⌜ length (now part) ≡ 62976 ⌝ }
+    requires table { ⌜ Framed (framesOf (now part)) ⌝ }
+    requires fits { ⌜ slot < 120 ⌝ ∗ ⌜ 0 < p ⌝ ∗ ⌜ length (now words) ≡ 512 ⌝ }
+    requires idle { ⌜ Idle (cache (now part)) slot ⌝ }
+    requires new { ⌜ slotOf (cache (now part)) p ≡ None ⌝ }
+    requires room { ⌜ cache (now part) .count < 64 ⌝ }
+    ensures staged { λ _. ⌜ ((m : Medium) (s : Store) → Intact m (now (part .entry)) s → T (not (s .imaged)) → 393 ≤ p → p < m .pages → Staged m (now (part .entry)) s p (now (words .entry)) (now (part .exit))) ⌝ }
+{
+    frames::stage(&mut part[..NEXT], slot, p, words);
+}
+
+// Page p is changed in the frames; the disk learns of it with the batch. Not while images stand.
+pub fn write_page(part: &mut [u64], p: u64, words: &[u64])
+    requires long { ⌜ length (now part) ≡ 62976 ⌝ }
+    requires table { ⌜ Framed (framesOf (now part)) ⌝ }
+    requires fits { ⌜ 0 < p ⌝ ∗ ⌜ length (now words) ≡ 512 ⌝ }
+    requires free { ⌜ pinned (cache (now part)) ≡ 0 ⌝ }
+    requires room { ⌜ cache (now part) .count < 64 ⌝ }
+    ensures staged { λ _. ⌜ ((m : Medium) (s : Store) → Intact m (now (part .entry)) s → T (not (s .imaged)) → 393 ≤ p → p < m .pages → Staged m (now (part .entry)) s p (now (words .entry)) (now (part .exit))) ⌝ }
+{
+    match frames::find(&part[..NEXT], p) {
+        Some(slot) => change_in(part, slot, p, words),
+        None => match frames::victim(&part[..NEXT]) {
+            Some(slot) => stage_in(part, slot, p, words),
+            None => unreachable(),
+        },
+    }
+}
+
+// A page to use: off the free list, or else one that was never used.
+pub fn alloc<D: Device>(d: &mut D, part: &mut [u64], store: &mut Store) -> Result<u64, Gone>
+    requires intact { ⌜ Intact (medium (now d)) (now part) (now store) ⌝ }
+    requires old { ⌜ ((now store .root .free ≡ 0 → ⊥) → (393 ≤ now store .root .free) × (now store .root .free < medium (now d) .pages)) ⌝ }
+    requires new { ⌜ 393 + now store .root .used < medium (now d) .pages ⌝ ∗ ⌜ medium (now d) .pages ≤ 4294967296 ⌝ }
+    requires asks { ⌜ 0 < medium (now d) .left ⌝ }
+    ensures allocs { λ r. ⌜ Cases r (λ x. Given (medium (now (d .entry))) (now (part .entry)) (now (store .entry)) x (medium (now (d .exit))) (now (part .exit)) (now (store .exit))) (λ _. Lost (medium (now (d .entry))) (medium (now (d .exit)))) ⌝ }
+    ensures tied { λ _. ⌜ tie (now (d .exit)) ≡ tie (now (d .entry)) ⌝ }
+{
+    let free = store.root.free;
+    if free == 0 {
+        let p = DATA + store.root.used;
+        store.root.used += 1;
+        return Ok(p);
+    }
+    let mut page = [0; PAGE];
+    read_page(d, part, store, free, &mut page)?;
+    store.root.free = page[0];
+    Ok(free)
+}
+
+// The page goes onto the free list: its first word is the one below it.
+pub fn release(part: &mut [u64], store: &mut Store, p: u64)
+    requires long { ⌜ length (now part) ≡ 62976 ⌝ }
+    requires table { ⌜ Framed (framesOf (now part)) ⌝ }
+    requires fits { ⌜ 0 < p ⌝ }
+    requires free { ⌜ pinned (cache (now part)) ≡ 0 ⌝ }
+    requires room { ⌜ cache (now part) .count < 64 ⌝ }
+    ensures root { λ _. ⌜ now (store .exit) ≡ withFree (now (store .entry)) p ⌝ }
+    ensures staged { λ _. ⌜ ((m : Medium) → Intact m (now (part .entry)) (now (store .entry)) → T (not (now (store .entry) .imaged)) → 393 ≤ p → p < m .pages → Staged m (now (part .entry)) (now (store .entry)) p (set (replicate 512 0) 0 (now (store .entry) .root .free)) (now (part .exit))) ⌝ }
+    ensures intact { λ _. ⌜ ((m : Medium) → Intact m (now (part .entry)) (now (store .entry)) → T (not (now (store .entry) .imaged)) → 393 ≤ p → p < m .pages → Intact m (now (part .exit)) (now (store .exit))) ⌝ }
+{
+    let mut page = [0; PAGE];
+    page[0] = store.root.free;
+    write_page(part, p, &page);
+    store.root.free = p;
 }
