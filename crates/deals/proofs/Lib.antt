@@ -20,3 +20,4 @@ pub mod Holding
 pub mod Effects
 pub mod Refusing
 pub mod Clearing
+pub mod Drives

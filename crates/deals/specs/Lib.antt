@@ -9,3 +9,5 @@ pub mod LineUps
 pub mod Refusals
 pub mod Examples
 pub mod Stub
+pub mod Drives
+pub mod Ages

@@ -1,6 +1,7 @@
 // The disk below, the clerks above, and the office between them.
 pub mod asked;
 pub mod desk;
+pub mod drive;
 pub mod layout;
 pub mod office;
 pub mod order;

@@ -8,6 +8,7 @@ ghost use Rattle.deals.specs.Deals.{State, Book, Quiet, Under, Over, setClerk}
 ghost use Rattle.deals.specs.Promise.{can};
 ghost use Rattle.deals.specs.Tables.{Sound, countAt, waitingIn, orderOf, restOf};
 ghost use Rattle.deals.specs.LineUps.{TablesHold, Served};
+ghost use Rattle.deals.specs.Ages.{Idle-turn, Turn-goes, One-told, Stays-young};
 use super::Answer;
 use super::Op;
 use super::asked::write_op;
@@ -96,4 +97,14 @@ pub fn clear(room: &mut [u64])
 {
     none(&mut room[COUNTS_AT..ORDER_AT]);
     room[WAITING_AT] = 0;
+}
+
+// The tables hold through a turn and a telling, and nobody's asking gets older than 32 turns that count.
+pub fn ages_stay_low() -> u8
+    ensures idle { λ _. ⌜ Idle-turn ⌝ }
+    ensures turn { λ _. ⌜ Turn-goes ⌝ }
+    ensures told { λ _. ⌜ One-told ⌝ }
+    ensures young { λ _. ⌜ Stays-young ⌝ }
+{
+    0
 }
