@@ -5,4 +5,4 @@ use Rattle.pagemem.proofs.copy_in.Goals as goal
 pub returns : goal.returns
 returns c =
     let a = c.args.p * 512 in
-    rw c.copy-from-slice.ensures.after (filled c.args.words.now c.args.from.now c.args.p a (a + 512 - a) refl (omega arith) c.requires.1 c.requires.0)
+    rw c.copy_from_slice.ensures.after (filled c.args.words.now c.args.from.now c.args.p a (a + 512 - a) refl (omega arith) c.requires.1 c.requires.0)

@@ -6,5 +6,5 @@ use Rattle.store.proofs.begin_batch.Goals as goal
 pub returns : goal.returns
 returns c =
     let part = c.args.part.now in
-    let l : length c.begin-batch.new.head ≡ 512 = c.begin-batch.auto.head ∙ length_next part c.requires.long in
-    record { begun = ap head_of (put_next part c.requires.long c.begin-batch.new.head l) ∙ c.begin-batch.ensures; frames = put_frames part c.requires.long c.begin-batch.new.head l }
+    let l : length c.begin_batch.new.head ≡ 512 = c.begin_batch.auto.head ∙ length_next part c.requires.long in
+    record { begun = ap head_of (put_next part c.requires.long c.begin_batch.new.head l) ∙ c.begin_batch.ensures; frames = put_frames part c.requires.long c.begin_batch.new.head l }

@@ -9,40 +9,40 @@ use Rattle.store.proofs.install.Goals as goal
 pub loop-k-init : goal.loop-k-init
 loop-k-init g c = (wrote_none _ _ _, refl)
 
-pub batch-slot-slot-requires : goal.batch-slot-slot-requires
-batch-slot-slot-requires g c = (c.requires.table, omega (arith, c.loop-k-test.true, c.batch-len-k-end.ensures.count))
+pub batch_slot-slot-requires : goal.batch_slot-slot-requires
+batch_slot-slot-requires g c = (c.requires.table, omega (arith, c.loop-k-test.true, c.batch_len-k-end.ensures.count))
 
-pub batch-page-to-requires : goal.batch-page-to-requires
-batch-page-to-requires g c = (c.requires.table, omega (arith, c.loop-k-test.true, c.batch-len-k-end.ensures.count))
+pub batch_page-to-requires : goal.batch_page-to-requires
+batch_page-to-requires g c = (c.requires.table, omega (arith, c.loop-k-test.true, c.batch_len-k-end.ensures.count))
 
-pub write-frame-requires : goal.write-frame-requires
-write-frame-requires g c =
+pub write_frame-requires : goal.write_frame-requires
+write_frame-requires g c =
     let w = c.loop-k.invariant.0 in
     record {
       ask = (
-        omega (arith, c.requires.asks, w.left tt, c.loop-k-test.true, c.batch-len-k-end.ensures.count),
-        omega (arith, w.pages, c.batch-page-to.ensures, c.requires.near c.loop-k.k (omega (arith, c.loop-k-test.true, c.batch-len-k-end.ensures.count))),
+        omega (arith, c.requires.asks, w.left tt, c.loop-k-test.true, c.batch_len-k-end.ensures.count),
+        omega (arith, w.pages, c.batch_page-to.ensures, c.requires.near c.loop-k.k (omega (arith, c.loop-k-test.true, c.batch_len-k-end.ensures.count))),
       );
-      long = (c.requires.long, c.batch-slot-slot.ensures.low);
+      long = (c.requires.long, c.batch_slot-slot.ensures.low);
     }
 
-pub returns-in-err-write-frame : goal.returns-in-err-write-frame
-returns-in-err-write-frame g c =
+pub returns-in-err-write_frame : goal.returns-in-err-write_frame
+returns-in-err-write_frame g c =
     let p = err_from_is_err_and c.from-residual.result c.from-residual.ensures.1 in
     record {
-      row = rw p.1 (wrote_part (omega (arith, c.loop-k-test.true, c.batch-len-k-end.ensures.count)) (omega (arith, c.loop-k-test.true, c.batch-len-k-end.ensures.count))
-          (wrote_more c.loop-k.invariant.0 c.in-err-write-frame.ensures.wrote c.batch-page-to.ensures (ap (frame_in (cache c.args.part.now).frames) c.batch-slot-slot.ensures.slot)));
-      tied = c.write-frame.ensures.tied ∙ c.loop-k.invariant.1;
+      row = rw p.1 (wrote_part (omega (arith, c.loop-k-test.true, c.batch_len-k-end.ensures.count)) (omega (arith, c.loop-k-test.true, c.batch_len-k-end.ensures.count))
+          (wrote_more c.loop-k.invariant.0 c.in-err-write_frame.ensures.wrote c.batch_page-to.ensures (ap (frame_in (cache c.args.part.now).frames) c.batch_slot-slot.ensures.slot)));
+      tied = c.write_frame.ensures.tied ∙ c.loop-k.invariant.1;
     }
 
 pub loop-k-preserved : goal.loop-k-preserved
 loop-k-preserved g c = (
-  wrote_more c.loop-k.invariant.0 c.in-ok-write-frame.ensures.wrote c.batch-page-to.ensures (ap (frame_in (cache c.args.part.now).frames) c.batch-slot-slot.ensures.slot),
-  c.write-frame.ensures.tied ∙ c.loop-k.invariant.1,
+  wrote_more c.loop-k.invariant.0 c.in-ok-write_frame.ensures.wrote c.batch_page-to.ensures (ap (frame_in (cache c.args.part.now).frames) c.batch_slot-slot.ensures.slot),
+  c.write_frame.ensures.tied ∙ c.loop-k.invariant.1,
 )
 
 pub returns : goal.returns
 returns g c = record {
-  row = wrote_all (omega (arith, c.loop-k.auto.k-end, c.batch-len-k-end.ensures.count)) (omega (arith, c.loop-k.auto.k-end, c.batch-len-k-end.ensures.count)) (omega (arith, c.loop-k-test.false, c.batch-len-k-end.ensures.count)) c.loop-k.invariant.0;
+  row = wrote_all (omega (arith, c.loop-k.auto.k-end, c.batch_len-k-end.ensures.count)) (omega (arith, c.loop-k.auto.k-end, c.batch_len-k-end.ensures.count)) (omega (arith, c.loop-k-test.false, c.batch_len-k-end.ensures.count)) c.loop-k.invariant.0;
   tied = c.loop-k.invariant.1;
 }

@@ -5,19 +5,19 @@ use Rattle.store.proofs.Places.{length_next}
 use Rattle.store.proofs.Views.{intact_read, intact_part}
 use Rattle.store.proofs.load_queue_page.Goals as goal
 
-pub ring-page-p-requires : goal.ring-page-p-requires
-ring-page-p-requires g c = let i = c.requires.intact in let k = i.ready.follows.ok in
+pub ring_page-p-requires : goal.ring_page-p-requires
+ring_page-p-requires g c = let i = c.requires.intact in let k = i.ready.follows.ok in
     record { long = length_next c.args.part.now i.long; turn = (k.turn, omega (arith, c.requires.full, k.room)) }
 
-pub load-scratch-requires : goal.load-scratch-requires
-load-scratch-requires g c = let i = c.requires.intact in record { ask = (c.requires.asks, omega (arith, c.ring-page-p.ensures, i.ready.kept.safe.big)); long = i.long }
+pub load_scratch-requires : goal.load_scratch-requires
+load_scratch-requires g c = let i = c.requires.intact in record { ask = (c.requires.asks, omega (arith, c.ring_page-p.ensures, i.ready.kept.safe.big)); long = i.long }
 
 pub returns : goal.returns
 returns g c =
-    let i = c.requires.intact in let l = c.load-scratch.ensures in
+    let i = c.requires.intact in let l = c.load_scratch.ensures in
     record {
-      reads = subst (λ (p : ℕ). Reads (g.D.Device.medium c.args.d.now) p (scratch_of c.load-scratch.new.part) (is_ok c.load-scratch.result) (g.D.Device.medium c.load-scratch.new.d)) c.ring-page-p.ensures l.reads;
-      intact = intact_read _ _ _ c.args.store.now _ _ _ l.reads (intact_part _ c.args.part.now c.load-scratch.new.part c.args.store.now (c.load-scratch.auto.part ∙ i.long) l.frames l.head i);
+      reads = subst (λ (p : ℕ). Reads (g.D.Device.medium c.args.d.now) p (scratch_of c.load_scratch.new.part) (is_ok c.load_scratch.result) (g.D.Device.medium c.load_scratch.new.d)) c.ring_page-p.ensures l.reads;
+      intact = intact_read _ _ _ c.args.store.now _ _ _ l.reads (intact_part _ c.args.part.now c.load_scratch.new.part c.args.store.now (c.load_scratch.auto.part ∙ i.long) l.frames l.head i);
       head = l.head;
       frames = l.frames;
       tied = l.tied;

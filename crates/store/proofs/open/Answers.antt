@@ -9,50 +9,50 @@ use Rattle.store.proofs.Places.{length_next}
 use Rattle.store.proofs.Comes.{rested_read, read_lost, redo_lost, opened}
 use Rattle.store.proofs.open.Goals as goal
 
-pub returns-in-err-load-head : goal.returns-in-err-load-head
-returns-in-err-load-head g c = record {
-  opens = MatchResult-from_err c.from-residual.result _ _ c.from-residual.ensures.0 (λ _. read_lost _ _ _ _ (rested_safe c.requires.rested) c.in-err-load-head.ensures.reads);
-  tied = c.load-head.ensures.tied;
+pub returns-in-err-load_head : goal.returns-in-err-load_head
+returns-in-err-load_head g c = record {
+  opens = MatchResult-from_err c.from-residual.result _ _ c.from-residual.ensures.0 (λ _. read_lost _ _ _ _ (rested_safe c.requires.rested) c.in-err-load_head.ensures.reads);
+  tied = c.load_head.ensures.tied;
 }
 
 pub redo-requires : goal.redo-requires
-redo-requires g c = let r = c.in-ok-load-head.ensures.reads in record {
+redo-requires g c = let r = c.in-ok-load_head.ensures.reads in record {
   rested = rested_read _ _ _ _ _ r c.requires.rested;
   asks = omega (arith, r.left, c.requires.asks);
-  long = c.load-head.auto.part ∙ c.requires.long;
+  long = c.load_head.auto.part ∙ c.requires.long;
   head = r.got tt ∙ sym (ap (λ s. s 0) r.shown);
 }
 
 pub returns-in-err-redo : goal.returns-in-err-redo
 returns-in-err-redo g c = record {
   opens = MatchResult-from_err c.from-residual-in-err-redo.result _ _ c.from-residual-in-err-redo.ensures.0
-      (λ _. redo_lost (g.D.Device.medium c.args.d.now) _ _ c.load-head.new.part false c.requires.rested c.in-ok-load-head.ensures.reads c.in-err-redo.ensures.row tt);
-  tied = c.redo.ensures.tied ∙ c.load-head.ensures.tied;
+      (λ _. redo_lost (g.D.Device.medium c.args.d.now) _ _ c.load_head.new.part false c.requires.rested c.in-ok-load_head.ensures.reads c.in-err-redo.ensures.row tt);
+  tied = c.redo.ensures.tied ∙ c.load_head.ensures.tied;
 }
 
-pub clear-frames-requires : goal.clear-frames-requires
-clear-frames-requires g c = record { long = c.redo.auto.part ∙ c.load-head.auto.part ∙ c.requires.long }
+pub clear_frames-requires : goal.clear_frames-requires
+clear_frames-requires g c = record { long = c.redo.auto.part ∙ c.load_head.auto.part ∙ c.requires.long }
 
 pub stamp-requires : goal.stamp-requires
-stamp-requires g c = let r = c.in-ok-load-head.ensures.reads in record {
-  long = c.clear-frames.auto.part ∙ c.redo.auto.part ∙ c.load-head.auto.part ∙ c.requires.long;
-  few = subst (λ (w : List ℕ). length (head_of w).targets ≤ 64) (sym (c.clear-frames.ensures.head ∙ c.redo.ensures.head ∙ r.got tt)) c.requires.rested.head.few;
+stamp-requires g c = let r = c.in-ok-load_head.ensures.reads in record {
+  long = c.clear_frames.auto.part ∙ c.redo.auto.part ∙ c.load_head.auto.part ∙ c.requires.long;
+  few = subst (λ (w : List ℕ). length (head_of w).targets ≤ 64) (sym (c.clear_frames.ensures.head ∙ c.redo.ensures.head ∙ r.got tt)) c.requires.rested.head.few;
 }
 
-pub read-root-root-requires : goal.read-root-root-requires
-read-root-root-requires g c = record { long = length_next c.stamp.new.part (c.stamp.auto.part ∙ c.clear-frames.auto.part ∙ c.redo.auto.part ∙ c.load-head.auto.part ∙ c.requires.long) }
+pub read_root-root-requires : goal.read_root-root-requires
+read_root-root-requires g c = record { long = length_next c.stamp.new.part (c.stamp.auto.part ∙ c.clear_frames.auto.part ∙ c.redo.auto.part ∙ c.load_head.auto.part ∙ c.requires.long) }
 
 pub returns : goal.returns
 returns g c =
     let f = c.stamp.ensures.frames in
     record {
-      opens = opened (g.D.Device.medium c.args.d.now) (g.D.Device.medium c.load-head.new.d) (g.D.Device.medium c.redo.new.d) c.load-head.new.part true c.requires.rested
-          c.in-ok-load-head.ensures.reads c.in-ok-redo.ensures.row tt c.stamp.new.part _
-          (c.stamp.auto.part ∙ c.clear-frames.auto.part ∙ c.redo.auto.part ∙ c.load-head.auto.part ∙ c.requires.long)
-          (c.stamp.ensures.stamped ∙ ap (λ w. stamped (head_of w)) (c.clear-frames.ensures.head ∙ c.redo.ensures.head))
-          (subst Framed (sym f) c.clear-frames.ensures.table) (ap cache_of f ∙ c.clear-frames.ensures.cache)
-          (λ s. ap (λ (z : List ℕ). shown_by (cache_of z) s) f ∙ c.clear-frames.ensures.shown s) (λ s. subst (λ (z : List ℕ). Clean (cache_of z) s) (sym f) (c.clear-frames.ensures.clean s))
-          (ap (λ (z : List ℕ). pinned (cache_of z)) f ∙ c.clear-frames.ensures.pins)
-          _ (ap (λ o. record { fresh = false; imaged = false; lasted = false; root = o; worked = 0 }) c.read-root-root.ensures);
-      tied = c.redo.ensures.tied ∙ c.load-head.ensures.tied;
+      opens = opened (g.D.Device.medium c.args.d.now) (g.D.Device.medium c.load_head.new.d) (g.D.Device.medium c.redo.new.d) c.load_head.new.part true c.requires.rested
+          c.in-ok-load_head.ensures.reads c.in-ok-redo.ensures.row tt c.stamp.new.part _
+          (c.stamp.auto.part ∙ c.clear_frames.auto.part ∙ c.redo.auto.part ∙ c.load_head.auto.part ∙ c.requires.long)
+          (c.stamp.ensures.stamped ∙ ap (λ w. stamped (head_of w)) (c.clear_frames.ensures.head ∙ c.redo.ensures.head))
+          (subst Framed (sym f) c.clear_frames.ensures.table) (ap cache_of f ∙ c.clear_frames.ensures.cache)
+          (λ s. ap (λ (z : List ℕ). shown_by (cache_of z) s) f ∙ c.clear_frames.ensures.shown s) (λ s. subst (λ (z : List ℕ). Clean (cache_of z) s) (sym f) (c.clear_frames.ensures.clean s))
+          (ap (λ (z : List ℕ). pinned (cache_of z)) f ∙ c.clear_frames.ensures.pins)
+          _ (ap (λ o. record { fresh = false; imaged = false; lasted = false; root = o; worked = 0 }) c.read_root-root.ensures);
+      tied = c.redo.ensures.tied ∙ c.load_head.ensures.tied;
     }

@@ -6,5 +6,5 @@ use Rattle.store.proofs.push_target.Goals as goal
 pub returns : goal.returns
 returns c =
     let part = c.args.part.now in
-    let l : length c.push-target.new.head ≡ 512 = c.push-target.auto.head ∙ length_next part c.requires.long in
-    record { aimed = ap head_of (put_next part c.requires.long c.push-target.new.head l) ∙ c.push-target.ensures; frames = put_frames part c.requires.long c.push-target.new.head l }
+    let l : length c.push_target.new.head ≡ 512 = c.push_target.auto.head ∙ length_next part c.requires.long in
+    record { aimed = ap head_of (put_next part c.requires.long c.push_target.new.head l) ∙ c.push_target.ensures; frames = put_frames part c.requires.long c.push_target.new.head l }

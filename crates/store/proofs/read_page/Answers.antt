@@ -6,7 +6,7 @@ use Rattle.store.proofs.read_page.Goals as goal
 
 pub returns-in-Some : goal.returns-in-Some
 returns-in-Some g c = record
-    { got = got_frame _ c.args.part.now c.args.store.now c.args.p c.in-Some.slot _ c.requires.intact (sym c.in-Some.ensures.slot) c.copy-out.ensures; tied = refl }
+    { got = got_frame _ c.args.part.now c.args.store.now c.args.p c.in-Some.slot _ c.requires.intact (sym c.in-Some.ensures.slot) c.copy_out.ensures; tied = refl }
 
 pub returns-in-err-read : goal.returns-in-err-read
 returns-in-err-read g c =

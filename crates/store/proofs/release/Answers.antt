@@ -5,6 +5,6 @@ use Rattle.store.proofs.release.Goals as goal
 pub returns : goal.returns
 returns c = record {
   root = refl;
-  staged = λ m i no' far near. c.write-page.ensures.staged m c.args.store.now i no' far near;
-  intact = λ m i no' far near. intact_root m c.write-page.new.part c.args.store.now _ (c.write-page.ensures.staged m c.args.store.now i no' far near).intact;
+  staged = λ m i no' far near. c.write_page.ensures.staged m c.args.store.now i no' far near;
+  intact = λ m i no' far near. intact_root m c.write_page.new.part c.args.store.now _ (c.write_page.ensures.staged m c.args.store.now i no' far near).intact;
 }

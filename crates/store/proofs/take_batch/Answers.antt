@@ -12,14 +12,14 @@ use Rattle.store.proofs.Cached.{batch_used}
 use Rattle.store.proofs.Batches.{over_sound, over_firm, over_cut, put_cut, put_done}
 use Rattle.store.proofs.take_batch.Goals as goal
 
-pub returns-in-err-make-last : goal.returns-in-err-make-last
-returns-in-err-make-last g c =
+pub returns-in-err-make_last : goal.returns-in-err-make_last
+returns-in-err-make_last g c =
     let p = err_from_is_err_and c.from-residual.result c.from-residual.ensures.1 in
-    let l = c.in-err-make-last.ensures.settles (next c.args.part.now) c.requires.intact.ready in
-    record { takes = rw p.1 (record { off = l.off; pages = l.pages; back = λ f b. let r = l.back f b in (r.0, inl r.1) }); tied = c.make-last.ensures.tied }
+    let l = c.in-err-make_last.ensures.settles (next c.args.part.now) c.requires.intact.ready in
+    record { takes = rw p.1 (record { off = l.off; pages = l.pages; back = λ f b. let r = l.back f b in (r.0, inl r.1) }); tied = c.make_last.ensures.tied }
 
-pub take-over-requires : goal.take-over-requires
-take-over-requires g c =
+pub take_over-requires : goal.take_over-requires
+take_over-requires g c =
     let i = c.requires.intact in let k = i.ready.follows.ok in
     record {
       long = i.long;
@@ -28,41 +28,41 @@ take-over-requires g c =
       ring = (k.turn, (k.room, omega (arith, k.done, k.brim, k.room, c.requires.worked, length_queue (next c.args.part.now) (g.D.Device.medium c.args.d.now).shown)));
     }
 
-pub write-head-requires : goal.write-head-requires
-write-head-requires g c =
+pub write_head-requires : goal.write_head-requires
+write_head-requires g c =
     let part = c.args.part.now in let i = c.requires.intact in
-    let m = g.D.Device.medium c.args.d.now in let a = g.D.Device.medium c.make-last.new.d in
-    let x = c.in-ok-make-last.ensures.settles (next part) i.ready in
-    let e = c.take-over.ensures.taken in
+    let m = g.D.Device.medium c.args.d.now in let a = g.D.Device.medium c.make_last.new.d in
+    let x = c.in-ok-make_last.ensures.settles (next part) i.ready in
+    let e = c.take_over.ensures.taken in
     record {
       kept = x.ready.kept;
-      sound = subst (Sound a.pages) (sym e) (over_sound m a part c.args.store.now c.make-last.new.store i c.requires.imaged c.requires.worked x);
-      firm = subst (Firm a) (sym e) (over_firm m a part c.args.store.now c.make-last.new.store i c.requires.imaged c.requires.worked x);
-      long = length_next c.take-over.new.part (c.take-over.auto.part ∙ i.long);
+      sound = subst (Sound a.pages) (sym e) (over_sound m a part c.args.store.now c.make_last.new.store i c.requires.imaged c.requires.worked x);
+      firm = subst (Firm a) (sym e) (over_firm m a part c.args.store.now c.make_last.new.store i c.requires.imaged c.requires.worked x);
+      long = length_next c.take_over.new.part (c.take_over.auto.part ∙ i.long);
       asks = omega (arith, c.requires.asks, x.left);
     }
 
-pub returns-in-err-write-head : goal.returns-in-err-write-head
-returns-in-err-write-head g c =
-    let p = err_from_is_err_and c.from-residual-in-err-write-head.result c.from-residual-in-err-write-head.ensures.1 in
+pub returns-in-err-write_head : goal.returns-in-err-write_head
+returns-in-err-write_head g c =
+    let p = err_from_is_err_and c.from-residual-in-err-write_head.result c.from-residual-in-err-write_head.ensures.1 in
     let part = c.args.part.now in let i = c.requires.intact in
-    let m = g.D.Device.medium c.args.d.now in let a = g.D.Device.medium c.make-last.new.d in
-    let x = c.in-ok-make-last.ensures.settles (next part) i.ready in
+    let m = g.D.Device.medium c.args.d.now in let a = g.D.Device.medium c.make_last.new.d in
+    let x = c.in-ok-make_last.ensures.settles (next part) i.ready in
     record {
-      takes = rw p.1 (over_cut m a part c.args.store.now c.make-last.new.store i c.requires.imaged c.requires.worked x _ (next c.take-over.new.part) c.take-over.ensures.taken c.in-err-write-head.ensures.moves);
-      tied = c.write-head.ensures.tied ∙ c.make-last.ensures.tied;
+      takes = rw p.1 (over_cut m a part c.args.store.now c.make_last.new.store i c.requires.imaged c.requires.worked x _ (next c.take_over.new.part) c.take_over.ensures.taken c.in-err-write_head.ensures.moves);
+      tied = c.write_head.ensures.tied ∙ c.make_last.ensures.tied;
     }
 
 pub install-requires : goal.install-requires
 install-requires g c =
     let part = c.args.part.now in let i = c.requires.intact in
-    let x = c.in-ok-make-last.ensures.settles (next part) i.ready in
-    let v = c.in-ok-write-head.ensures.moves in
-    let e = c.take-over.ensures.frames in
+    let x = c.in-ok-make_last.ensures.settles (next part) i.ready in
+    let v = c.in-ok-write_head.ensures.moves in
+    let e = c.take_over.ensures.frames in
     record {
-      long = c.take-over.auto.part ∙ i.long;
+      long = c.take_over.auto.part ∙ i.long;
       table = subst Framed (sym e) i.table;
-      near = subst (λ (f : List ℕ). (k : ℕ) → k < (cache_of f).count → batch_page (cache_of f) k < (g.D.Device.medium c.write-head.new.d).pages) (sym e)
+      near = subst (λ (f : List ℕ). (k : ℕ) → k < (cache_of f).count → batch_page (cache_of f) k < (g.D.Device.medium c.write_head.new.d).pages) (sym e)
           (λ k l. let u = batch_used (frames_of part) i.table k l in omega (arith, (i.plain (entry_in (cache part) k) u.0 u.1).1, x.pages, v.pages));
       asks = omega (arith, c.requires.asks, x.left, v.left, ap (λ (f : List ℕ). (cache_of f).count) e);
     }
@@ -71,32 +71,32 @@ pub returns-in-err-install : goal.returns-in-err-install
 returns-in-err-install g c =
     let p = err_from_is_err_and c.from-residual-in-err-install.result c.from-residual-in-err-install.ensures.1 in
     let part = c.args.part.now in let i = c.requires.intact in
-    let m = g.D.Device.medium c.args.d.now in let a = g.D.Device.medium c.make-last.new.d in
-    let b = g.D.Device.medium c.write-head.new.d in let e = g.D.Device.medium c.install.new.d in
-    let x = c.in-ok-make-last.ensures.settles (next part) i.ready in
+    let m = g.D.Device.medium c.args.d.now in let a = g.D.Device.medium c.make_last.new.d in
+    let b = g.D.Device.medium c.write_head.new.d in let e = g.D.Device.medium c.install.new.d in
+    let x = c.in-ok-make_last.ensures.settles (next part) i.ready in
     record {
-      takes = rw p.1 (put_cut m a part c.args.store.now c.make-last.new.store i c.requires.imaged c.requires.worked x b e c.take-over.new.part false c.take-over.ensures.taken c.in-ok-write-head.ensures.moves
-          (subst (λ (f : List ℕ). WroteAll (cache_of f).count (cache_of f).count (batch_page (cache_of f)) (batch_words (cache_of f)) b false e) c.take-over.ensures.frames c.in-err-install.ensures.row) tt);
-      tied = c.install.ensures.tied ∙ c.write-head.ensures.tied ∙ c.make-last.ensures.tied;
+      takes = rw p.1 (put_cut m a part c.args.store.now c.make_last.new.store i c.requires.imaged c.requires.worked x b e c.take_over.new.part false c.take_over.ensures.taken c.in-ok-write_head.ensures.moves
+          (subst (λ (f : List ℕ). WroteAll (cache_of f).count (cache_of f).count (batch_page (cache_of f)) (batch_words (cache_of f)) b false e) c.take_over.ensures.frames c.in-err-install.ensures.row) tt);
+      tied = c.install.ensures.tied ∙ c.write_head.ensures.tied ∙ c.make_last.ensures.tied;
     }
 
 pub settle-requires : goal.settle-requires
-settle-requires g c = subst Framed (sym c.take-over.ensures.frames) c.requires.intact.table
+settle-requires g c = subst Framed (sym c.take_over.ensures.frames) c.requires.intact.table
 
 pub returns : goal.returns
 returns g c =
-    let part = c.args.part.now in let i = c.requires.intact in let mid = c.take-over.new.part in
-    let m = g.D.Device.medium c.args.d.now in let a = g.D.Device.medium c.make-last.new.d in
-    let b = g.D.Device.medium c.write-head.new.d in let e = g.D.Device.medium c.install.new.d in
-    let x = c.in-ok-make-last.ensures.settles (next part) i.ready in
-    let long : length c.take-over.new.part ≡ 62976 = c.take-over.auto.part ∙ i.long in
+    let part = c.args.part.now in let i = c.requires.intact in let mid = c.take_over.new.part in
+    let m = g.D.Device.medium c.args.d.now in let a = g.D.Device.medium c.make_last.new.d in
+    let b = g.D.Device.medium c.write_head.new.d in let e = g.D.Device.medium c.install.new.d in
+    let x = c.in-ok-make_last.ensures.settles (next part) i.ready in
+    let long : length c.take_over.new.part ≡ 62976 = c.take_over.auto.part ∙ i.long in
     let w = c.settle.new.part in
     let k : length c.settle.new.part ≡ 61952 = c.settle.auto.part ∙ length_frames mid long in
     let f = frames_frames mid long w k in
     record {
-      takes = put_done m a part c.args.store.now c.make-last.new.store i c.requires.imaged c.requires.worked x b e mid true c.take-over.ensures.taken c.in-ok-write-head.ensures.moves
-          (subst (λ (f : List ℕ). WroteAll (cache_of f).count (cache_of f).count (batch_page (cache_of f)) (batch_words (cache_of f)) b true e) c.take-over.ensures.frames c.in-ok-install.ensures.row) tt
-          _ c.take-over.ensures.frames (frames_next mid long w k) (frames_long mid long w k) (subst Framed (sym f) c.settle.ensures.sound) (ap cache_of f ∙ c.settle.ensures.cache)
+      takes = put_done m a part c.args.store.now c.make_last.new.store i c.requires.imaged c.requires.worked x b e mid true c.take_over.ensures.taken c.in-ok-write_head.ensures.moves
+          (subst (λ (f : List ℕ). WroteAll (cache_of f).count (cache_of f).count (batch_page (cache_of f)) (batch_words (cache_of f)) b true e) c.take_over.ensures.frames c.in-ok-install.ensures.row) tt
+          _ c.take_over.ensures.frames (frames_next mid long w k) (frames_long mid long w k) (subst Framed (sym f) c.settle.ensures.sound) (ap cache_of f ∙ c.settle.ensures.cache)
           (λ u v y. ap (λ (z : List ℕ). shown_by (cache_of z) v) f ∙ c.settle.ensures.shown u v y) (λ u v y l. subst (λ (z : List ℕ). Clean (cache_of z) v) (sym f) (c.settle.ensures.clean u v y l));
-      tied = c.install.ensures.tied ∙ c.write-head.ensures.tied ∙ c.make-last.ensures.tied;
+      tied = c.install.ensures.tied ∙ c.write_head.ensures.tied ∙ c.make_last.ensures.tied;
     }

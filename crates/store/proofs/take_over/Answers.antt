@@ -6,18 +6,18 @@ use Rattle.store.specs.Store.{frames_of, next, cache}
 use Rattle.store.proofs.Cached.{length_pages}
 use Rattle.store.proofs.take_over.Goals as goal
 
-pub push-targets-requires : goal.push-targets-requires
-push-targets-requires c = record
-    { long = c.begin-batch.auto.part ∙ c.requires.long; table = subst Framed (sym c.begin-batch.ensures.frames) c.requires.table; none = ap (λ (h : Head). h.targets) c.begin-batch.ensures.begun }
+pub push_targets-requires : goal.push_targets-requires
+push_targets-requires c = record
+    { long = c.begin_batch.auto.part ∙ c.requires.long; table = subst Framed (sym c.begin_batch.ensures.frames) c.requires.table; none = ap (λ (h : Head). h.targets) c.begin_batch.ensures.begun }
 
-pub put-work-requires : goal.put-work-requires
-put-work-requires c =
+pub put_work-requires : goal.put_work-requires
+put_work-requires c =
     let part = c.args.part.now in
-    let e = c.push-targets.ensures.named ∙ ap (aiming (batch_pages (cache c.begin-batch.new.part))) c.begin-batch.ensures.begun in
-    let f = c.begin-batch.ensures.frames in
+    let e = c.push_targets.ensures.named ∙ ap (aiming (batch_pages (cache c.begin_batch.new.part))) c.begin_batch.ensures.begun in
+    let f = c.begin_batch.ensures.frames in
     record {
-      long = c.push-targets.auto.part ∙ c.begin-batch.auto.part ∙ c.requires.long;
-      few = rw (ap (λ (h : Head). length h.targets) e) (omega (arith, length_pages (frames_of c.begin-batch.new.part) (subst Framed (sym f) c.requires.table), (subst Framed (sym f) c.requires.table).table.few));
+      long = c.push_targets.auto.part ∙ c.begin_batch.auto.part ∙ c.requires.long;
+      few = rw (ap (λ (h : Head). length h.targets) e) (omega (arith, length_pages (frames_of c.begin_batch.new.part) (subst Framed (sym f) c.requires.table), (subst Framed (sym f) c.requires.table).table.few));
       ring = subst (λ (h : Head). (h.first < 264) × ((h.full < 264) × (h.done + c.args.worked < 65536))) (sym e) c.requires.ring;
     }
 
@@ -25,8 +25,8 @@ pub returns : goal.returns
 returns c =
     let root = c.args.root in let k = c.args.worked in
     record {
-      taken = c.put-work.ensures.freed
-          ∙ ap (λ h. freed k (rooted root h)) (c.push-targets.ensures.named ∙ ap (aiming (batch_pages (cache c.begin-batch.new.part))) c.begin-batch.ensures.begun
-          ∙ ap (λ (f : List ℕ). batched (batch_pages (cache_of f)) (next c.args.part.now)) c.begin-batch.ensures.frames);
-      frames = c.put-work.ensures.frames ∙ c.push-targets.ensures.frames ∙ c.begin-batch.ensures.frames;
+      taken = c.put_work.ensures.freed
+          ∙ ap (λ h. freed k (rooted root h)) (c.push_targets.ensures.named ∙ ap (aiming (batch_pages (cache c.begin_batch.new.part))) c.begin_batch.ensures.begun
+          ∙ ap (λ (f : List ℕ). batched (batch_pages (cache_of f)) (next c.args.part.now)) c.begin_batch.ensures.frames);
+      frames = c.put_work.ensures.frames ∙ c.push_targets.ensures.frames ∙ c.begin_batch.ensures.frames;
     }

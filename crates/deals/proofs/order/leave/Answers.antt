@@ -10,7 +10,7 @@ unfolding order_of
 returns c =
     let r = c.args.room.now in
     let i = c.requires.0 in
-    let y = c.close-up.new.order in
+    let y = c.close_up.new.order in
     let q : List ℕ = remove (order_of r) c.args.place in
     let m : ℕ = waiting_in r - 1 in
     let most : waiting_in r ≤ 32 = i.most in
@@ -18,6 +18,6 @@ returns c =
     let size : length q ≡ m = omega (arith, length-remove (order_of r) c.args.place here, order_long r i) in
     let few : (k : ℕ) → k < length q → get_or q k 0 < 32 = removed_few (order_of r) c.args.place here (order_few r i) in
     record {
-      order = order_is r y m q i (omega arith) c.close-up.ensures size (omega arith) few;
-      others = only_order r y m q i (omega arith) c.close-up.ensures size (omega arith) few;
+      order = order_is r y m q i (omega arith) c.close_up.ensures size (omega arith) few;
+      others = only_order r y m q i (omega arith) c.close_up.ensures size (omega arith) few;
     }

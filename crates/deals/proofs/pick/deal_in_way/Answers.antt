@@ -10,6 +10,6 @@ returns c =
     let room = c.args.room.now in
     let e = c.args.e in
     let k : ℕ = 3072 * e + 3072 - 3072 * e in
-    c.in-way.ensures
-    ∙ ap (λ (r : Ring). some_bars c.args.want (lines_of (take k (drop (3072 * e) room)) r)) c.deal-ring.ensures
+    c.in_way.ensures
+    ∙ ap (λ (r : Ring). some_bars c.args.want (lines_of (take k (drop (3072 * e) room)) r)) c.deal_ring.ensures
     ∙ ap (some_bars c.args.want) (part_lines room e k (omega arith))

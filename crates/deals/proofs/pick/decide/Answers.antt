@@ -9,7 +9,7 @@ pub loop-i-init : goal.loop-i-init
 loop-i-init c s t f = graph_none can c.none-graph.result s (order_of c.args.room.now) c.none-graph.ensures
 
 pub loop-i-preserved : goal.loop-i-preserved
-loop-i-preserved c s t f = c.note-waits.ensures s t (subst (λ (x : ℕ). FindsFor can c.args.room.now s x (get_or c.args.found.now c.who-at-who.result None)) c.who-at-who.ensures.0 (f c.who-at-who.result c.who-at-who.ensures.1)) (c.loop-i.invariant s t f)
+loop-i-preserved c s t f = c.note_waits.ensures s t (subst (λ (x : ℕ). FindsFor can c.args.room.now s x (get_or c.args.found.now c.who_at-who.result None)) c.who_at-who.ensures.0 (f c.who_at-who.result c.who_at-who.ensures.1)) (c.loop-i.invariant s t f)
 
 pub returns : goal.returns
 returns c s t f =

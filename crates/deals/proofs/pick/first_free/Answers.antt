@@ -10,18 +10,18 @@ pub returns-then-waiting-eq0 : goal.returns-then-waiting-eq0
 unfolding Quick
 returns-then-waiting-eq0 c s t f = inl (sym c.waiting.ensures.0 ∙ c.if-waiting-eq0.true)
 
-pub returns-then-is-empty : goal.returns-then-is-empty
-returns-then-is-empty c s t f =
+pub returns-then-is_empty : goal.returns-then-is_empty
+returns-then-is_empty c s t f =
     let r = c.args.room.now in
-    let who = c.who-at-who.result in
+    let who = c.who_at-who.result in
     let some : 0 < waiting_in r = omega (arith, c.waiting.ensures.1, c.if-waiting-eq0.false) in
-    quick_free can s (order_of r) who c.waits-for.result (omega (arith, order_long r c.requires)) (sym c.who-at-who.ensures.0) c.who-at-who.ensures.1
-    (place_waits can true r s 0 who c.args.found c.waits-for.result t some c.who-at-who.ensures.0 c.waits-for.ensures f) (sym c.if-is-empty.ensures)
+    quick_free can s (order_of r) who c.waits_for.result (omega (arith, order_long r c.requires)) (sym c.who_at-who.ensures.0) c.who_at-who.ensures.1
+    (place_waits can true r s 0 who c.args.found c.waits_for.result t some c.who_at-who.ensures.0 c.waits_for.ensures f) (sym c.if-is_empty.ensures)
 
-pub returns-else-is-empty : goal.returns-else-is-empty
-returns-else-is-empty c s t f =
+pub returns-else-is_empty : goal.returns-else-is_empty
+returns-else-is_empty c s t f =
     let r = c.args.room.now in
-    let who = c.who-at-who.result in
+    let who = c.who_at-who.result in
     let some : 0 < waiting_in r = omega (arith, c.waiting.ensures.1, c.if-waiting-eq0.false) in
-    quick_held can s (order_of r) who c.waits-for.result (sym c.who-at-who.ensures.0)
-    (place_waits can true r s 0 who c.args.found c.waits-for.result t some c.who-at-who.ensures.0 c.waits-for.ensures f) (sym c.if-is-empty.ensures)
+    quick_held can s (order_of r) who c.waits_for.result (sym c.who_at-who.ensures.0)
+    (place_waits can true r s 0 who c.args.found c.waits_for.result t some c.who_at-who.ensures.0 c.waits_for.ensures f) (sym c.if-is_empty.ensures)

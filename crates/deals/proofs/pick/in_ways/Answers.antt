@@ -7,7 +7,7 @@ use Rattle.locks.specs.declared.way.Want.{Want}
 use Rattle.locks.proofs.Bits.{has_zero, set_in, set_out}
 use Rattle.deals.specs.Tables.{lines_in}
 use Rattle.deals.proofs.pick.in_ways.Goals as goal
-use Rattle.deals.proofs.pick.in_ways.Goals.{then-other-in-way, else-other-in-way}
+use Rattle.deals.proofs.pick.in_ways.Goals.{then-other_in_way, else-other_in_way}
 
 -- e's deal is in the way of c
 abbrev in_way : List ℕ → ℕ → Want → ℕ → Bool
@@ -20,7 +20,7 @@ pub loop-e-preserved : goal.loop-e-preserved
 loop-e-preserved c k =
     let f = in_way c.args.room.now c.args.c c.args.want in
     let e = c.loop-e.e in
-    elim c.if-other-in-way.branch [
-      | then-other-in-way w ↦ ap (λ (x : ClerkSet). is_in x k) w.set-is ∙ set_in f (is_in c.loop-e.set) (is_in w.with-set.result) e c.loop-e.invariant w.with-set.ensures (sym w.if-other-in-way.ensures) k
-      | else-other-in-way w ↦ ap (λ (x : ClerkSet). is_in x k) w.set-is ∙ set_out f (is_in c.loop-e.set) e c.loop-e.invariant (sym w.if-other-in-way.ensures) k
+    elim c.if-other_in_way.branch [
+      | then-other_in_way w ↦ ap (λ (x : ClerkSet). is_in x k) w.set-is ∙ set_in f (is_in c.loop-e.set) (is_in w.with-set.result) e c.loop-e.invariant w.with-set.ensures (sym w.if-other_in_way.ensures) k
+      | else-other_in_way w ↦ ap (λ (x : ClerkSet). is_in x k) w.set-is ∙ set_out f (is_in c.loop-e.set) e c.loop-e.invariant (sym w.if-other_in_way.ensures) k
     ]

@@ -7,7 +7,7 @@ use Rattle.deals.proofs.pick.note_waits.Goals as goal
 pub returns : goal.returns
 returns c s t f m =
     let r = c.args.room.now in
-    let who = c.who-at-who.result in
-    graph_more can c.args.graph.now c.put.new.self s (order_of r) c.args.i who (sym c.who-at-who.ensures.0)
-    (λ e. c.put.ensures.put e ∙ place_waits can true r s c.args.i who c.args.found c.waits-for.result t c.requires.1 c.who-at-who.ensures.0 c.waits-for.ensures f e)
+    let who = c.who_at-who.result in
+    graph_more can c.args.graph.now c.put.new.self s (order_of r) c.args.i who (sym c.who_at-who.ensures.0)
+    (λ e. c.put.ensures.put e ∙ place_waits can true r s c.args.i who c.args.found c.waits_for.result t c.requires.1 c.who_at-who.ensures.0 c.waits_for.ensures f e)
     c.put.ensures.others m

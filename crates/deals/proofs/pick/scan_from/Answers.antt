@@ -13,13 +13,13 @@ returns-in-Next c = sym c.in-Next.ensures
 pub returns-in-default : goal.returns-in-default
 returns-in-default c s f d h =
     let o = op_at c.args.room.now c.args.c in
-    finds_any o (told o (s.clerk c.args.c).deal s.book) f (λ k e. c.in-default.not-Next k (c.read-op-o.ensures ∙ e))
+    finds_any o (told o (s.clerk c.args.c).deal s.book) f (λ k e. c.in-default.not-Next k (c.read_op-o.ensures ∙ e))
 
-pub returns-then-not-comes-to : goal.returns-then-not-comes-to
-returns-then-not-comes-to c s f d h =
+pub returns-then-not-comes_to : goal.returns-then-not-comes_to
+returns-then-not-comes_to c s f d h =
     let r = c.args.room.now in
     let who = c.args.c in
     absurd
     (false≢true
-    (c.if-not-comes-to.ensures ∙ ap (λ (o : Op). can o && (ends o || ltb (count_at r who) 1024)) c.read-op-o.ensures
+    (c.if-not-comes_to.ensures ∙ ap (λ (o : Op). can o && (ends o || ltb (count_at r who) 1024)) c.read_op-o.ensures
     ∙ comes_is can r s who (op_at r who) (d who c.requires.1) ∙ h))

@@ -4,4 +4,4 @@ use Rattle.deals.proofs.refusals.has_mark.Goals as goal
 
 pub returns : goal.returns
 unfolding lines_in
-returns c = ap (ltb c.args.j) c.marks-of.ensures.is
+returns c = ap (ltb c.args.j) c.marks_of.ensures.is

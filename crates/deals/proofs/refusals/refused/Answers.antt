@@ -7,39 +7,39 @@ use Rattle.deals.proofs.Refusing.{refuses_unbuilt, refuses_long, refuses_mark, r
 use Rattle.deals.proofs.Waiting.{comes_by}
 use Rattle.deals.proofs.refusals.refused.Goals as goal
 
-pub returns-then-not-is-built : goal.returns-then-not-is-built
-returns-then-not-is-built c s d =
-    refuses_unbuilt can (op_at c.args.room.now c.args.c) (s.clerk c.args.c).deal (sym (ap can c.read-op-o.ensures) ∙ sym c.if-not-is-built.ensures)
+pub returns-then-not-is_built : goal.returns-then-not-is_built
+returns-then-not-is_built c s d =
+    refuses_unbuilt can (op_at c.args.room.now c.args.c) (s.clerk c.args.c).deal (sym (ap can c.read_op-o.ensures) ∙ sym c.if-not-is_built.ensures)
 
-pub returns-then-not-comes-to : goal.returns-then-not-comes-to
-returns-then-not-comes-to c s d =
+pub returns-then-not-comes_to : goal.returns-then-not-comes_to
+returns-then-not-comes_to c s d =
     let r = c.args.room.now in
     let who = c.args.c in
-    refuses_long can (op_at r who) (s.clerk who).deal (sym (ap can c.read-op-o.ensures) ∙ sym c.if-not-is-built.ensures)
-    (comes_by can r s who c.read-op-o.result false (d who c.requires.1) c.read-op-o.ensures c.if-not-comes-to.ensures)
+    refuses_long can (op_at r who) (s.clerk who).deal (sym (ap can c.read_op-o.ensures) ∙ sym c.if-not-is_built.ensures)
+    (comes_by can r s who c.read_op-o.result false (d who c.requires.1) c.read_op-o.ensures c.if-not-comes_to.ensures)
 
-pub returns-then-has-mark : goal.returns-then-has-mark
-returns-then-has-mark c s d =
+pub returns-then-has_mark : goal.returns-then-has_mark
+returns-then-has_mark c s d =
     let r = c.args.room.now in
     let who = c.args.c in
     let keeps = d who c.requires.1 in
     refuses_back can (op_at r who) (s.clerk who).deal c.in-Back.j (marks_in (lines_in r who))
-    (comes_by can r s who c.read-op-o.result true keeps c.read-op-o.ensures c.if-not-comes-to.ensures)
-    (sym c.in-Back.ensures) (λ b. table_marks r who (s.clerk who).deal b keeps) (sym c.if-has-mark.ensures)
+    (comes_by can r s who c.read_op-o.result true keeps c.read_op-o.ensures c.if-not-comes_to.ensures)
+    (sym c.in-Back.ensures) (λ b. table_marks r who (s.clerk who).deal b keeps) (sym c.if-has_mark.ensures)
 
-pub returns-else-has-mark : goal.returns-else-has-mark
-returns-else-has-mark c s d =
+pub returns-else-has_mark : goal.returns-else-has_mark
+returns-else-has_mark c s d =
     let r = c.args.room.now in
     let who = c.args.c in
     let keeps = d who c.requires.1 in
     refuses_mark can (op_at r who) (s.clerk who).deal c.in-Back.j (marks_in (lines_in r who))
-    (comes_by can r s who c.read-op-o.result true keeps c.read-op-o.ensures c.if-not-comes-to.ensures)
-    (sym c.in-Back.ensures) (λ b. table_marks r who (s.clerk who).deal b keeps) (sym c.if-has-mark.ensures)
+    (comes_by can r s who c.read_op-o.result true keeps c.read_op-o.ensures c.if-not-comes_to.ensures)
+    (sym c.in-Back.ensures) (λ b. table_marks r who (s.clerk who).deal b keeps) (sym c.if-has_mark.ensures)
 
 pub returns-in-default : goal.returns-in-default
 returns-in-default c s d =
     let r = c.args.room.now in
     let who = c.args.c in
     refuses_none can (op_at r who) (s.clerk who).deal
-    (comes_by can r s who c.read-op-o.result true (d who c.requires.1) c.read-op-o.ensures c.if-not-comes-to.ensures)
-    (λ j e. c.in-default.not-Back j (c.read-op-o.ensures ∙ e))
+    (comes_by can r s who c.read_op-o.result true (d who c.requires.1) c.read_op-o.ensures c.if-not-comes_to.ensures)
+    (λ j e. c.in-default.not-Back j (c.read_op-o.ensures ∙ e))

@@ -9,11 +9,11 @@ returns-then-p-eq0 c = record {
   stands = tt;
 }
 
-pub returns-then-slot-lt-FRAME-COUNT : goal.returns-then-slot-lt-FRAME-COUNT
-returns-then-slot-lt-FRAME-COUNT c =
+pub returns-then-slot-lt-FRAME_COUNT : goal.returns-then-slot-lt-FRAME_COUNT
+returns-then-slot-lt-FRAME_COUNT c =
     let part = c.args.part.now in
     let r = rows part c.requires.sized in
-    let low = c.if-slot-lt-FRAME-COUNT.true in
+    let low = c.if-slot-lt-FRAME_COUNT.true in
     let found = c.scan-slot.ensures.found low in
     let pos : 0 < c.args.p = omega (arith, c.if-p-eq0.false) in
     record {
@@ -21,8 +21,8 @@ returns-then-slot-lt-FRAME-COUNT c =
       stands = record { low = low; page = found; used = pos };
     }
 
-pub returns-else-slot-lt-FRAME-COUNT : goal.returns-else-slot-lt-FRAME-COUNT
-returns-else-slot-lt-FRAME-COUNT c =
+pub returns-else-slot-lt-FRAME_COUNT : goal.returns-else-slot-lt-FRAME_COUNT
+returns-else-slot-lt-FRAME_COUNT c =
     let part = c.args.part.now in
     let r = rows part c.requires.sized in
     record {

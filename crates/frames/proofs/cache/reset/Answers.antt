@@ -8,10 +8,10 @@ use Rattle.frames.proofs.cache.reset.Goals as goal
 pub returns : goal.returns
 returns c =
     let fs = (cache_of c.args.part.now).frames in
-    let e = c.free-all.ensures in
+    let e = c.free_all.ensures in
     record {
       cache = e;
-      sound = sound_as _ _ (c.free-all.auto.part ∙ c.requires) e (cleared_table fs);
+      sound = sound_as _ _ (c.free_all.auto.part ∙ c.requires) e (cleared_table fs);
       shown = λ s. ap (λ (d : Cache). shown_by d s) e ∙ cleared_shown fs s;
       clean = λ s. subst (λ (d : Cache). Clean d s) (sym e) (cleared_clean fs s);
       pins = ap pinned e;

@@ -11,7 +11,7 @@ returns c =
     let b = cache_of part in
     let t = c.requires.table in
     let none : (i : ℕ) → i < 120 → Idle b i → ⊥ = each_comes b t.turn (λ k h d.
-    c.loop-step.invariant k (omega arith) (subst (λ n. Idle b ((n + k) % 120)) (sym c.hand-of-hand.ensures) d)) in
+    c.loop-step.invariant k (omega arith) (subst (λ n. Idle b ((n + k) % 120)) (sym c.hand_of-hand.ensures) d)) in
     record {
       chosen = none;
       some = λ few. absurd (some_idle b t (rows part c.requires.sized) few none);

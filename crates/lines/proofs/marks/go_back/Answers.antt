@@ -14,12 +14,12 @@ loop-i-preserved c =
     let a = length_lines c.args.words.now c.args.ring in
     let b = length_lines c.loop-i.words c.args.ring in
     let all = backed c.args.stay xs in
-    let l = c.line-at-line.result in
+    let l = c.line_at-line.result in
     let n = c.loop-i.left in
-    let s = back_step xs ys all c.loop-i.i n (omega arith) (omega arith) c.loop-i.invariant.0 c.loop-i.invariant.1 l c.line-at-line.ensures in
-    let e : lines_of c.set-line.new.words c.args.ring ≡ set ys c.loop-i.i (line_back n l) = c.set-line.ensures ∙ ap (λ (x : Line). set ys c.loop-i.i x) c.line-back.ensures in
-    let m = c.left-back-left.ensures in (
-      ap (λ (x : List Line). take (c.loop-i.i + 1) x ++ backed c.left-back-left.result (drop (c.loop-i.i + 1) xs)) e
+    let s = back_step xs ys all c.loop-i.i n (omega arith) (omega arith) c.loop-i.invariant.0 c.loop-i.invariant.1 l c.line_at-line.ensures in
+    let e : lines_of c.set_line.new.words c.args.ring ≡ set ys c.loop-i.i (line_back n l) = c.set_line.ensures ∙ ap (λ (x : Line). set ys c.loop-i.i x) c.line_back.ensures in
+    let m = c.left_back-left.ensures in (
+      ap (λ (x : List Line). take (c.loop-i.i + 1) x ++ backed c.left_back-left.result (drop (c.loop-i.i + 1) xs)) e
           ∙ (ap (λ (x : ℕ). take (c.loop-i.i + 1) (set ys c.loop-i.i (line_back n l)) ++ backed x (drop (c.loop-i.i + 1) xs)) m ∙ s.0),
       ap (λ (x : List Line). drop (c.loop-i.i + 1) x) e ∙ s.1,
     )

@@ -13,7 +13,7 @@ loop-i-preserved c =
     let i = c.loop-i.i in
     let n = length_lines c.args.words.now c.args.ring in
     let e : marks_in (drop i ls) ≡ mark_of (get_or ls i Idle) + marks_in (drop (i + 1) ls) = at_drop_more marks_in ls i Idle (omega arith) in
-    let is : c.mark-of-marks.result ≡ mark_of (get_or ls i Idle) = c.mark-of-marks.ensures ∙ ap mark_of c.line-at.ensures in
+    let is : c.mark_of-marks.result ≡ mark_of (get_or ls i Idle) = c.mark_of-marks.ensures ∙ ap mark_of c.line_at.ensures in
     (omega (arith, mark_most (get_or ls i Idle), c.loop-i.invariant.0), omega (arith, c.loop-i.invariant.1))
 
 pub returns : goal.returns

@@ -17,18 +17,18 @@ returns c =
     let l = c.args.line in
     let part : k ≡ 3072 = omega arith in
     let long : length v ≡ 3072 = c.push.auto.words ∙ deal_length w c.args.deal k c.requires.0.room c.requires.0.deal part in
-    let p = c.deal-ring.result in
+    let p = c.deal_ring.result in
     let r = c.push.result in
     let g = c.push.ensures.grown in
     let is : r ≡ deal_ring (n + 1) =
-    ap (λ (x : ℕ). ring x r.start r.count) (g.0 ∙ ap (λ (x : Ring). x.cap) c.deal-ring.ensures)
-    ∙ (ap (λ (x : ℕ). ring 1024 x r.count) (g.1.0 ∙ ap (λ (x : Ring). x.start) c.deal-ring.ensures)
-    ∙ ap (λ (x : ℕ). ring 1024 0 x) (g.1.1 ∙ ap (λ (x : Ring). x.count + 1) c.deal-ring.ensures)) in
+    ap (λ (x : ℕ). ring x r.start r.count) (g.0 ∙ ap (λ (x : Ring). x.cap) c.deal_ring.ensures)
+    ∙ (ap (λ (x : ℕ). ring 1024 x r.count) (g.1.0 ∙ ap (λ (x : Ring). x.start) c.deal_ring.ensures)
+    ∙ ap (λ (x : ℕ). ring 1024 0 x) (g.1.1 ∙ ap (λ (x : Ring). x.count + 1) c.deal_ring.ensures)) in
     record {
       lines = deal_here w v c.args.deal k c.requires.0.room c.requires.0.deal part long (n + 1)
           ∙ (ap (λ (x : Ring). lines_of v x) (sym is)
           ∙ (c.push.ensures.lines
-          ∙ (ap (λ (x : Ring). lines_of (take k (drop a w)) x ++ l ∷ []) c.deal-ring.ensures
+          ∙ (ap (λ (x : Ring). lines_of (take k (drop a w)) x ++ l ∷ []) c.deal_ring.ensures
           ∙ ap (λ (x : List Line). x ++ l ∷ []) (deal_part w c.args.deal k part n))));
       only = only_deal w v c.args.deal k c.requires.0.room c.requires.0.deal part long;
     }

@@ -10,16 +10,16 @@ use Rattle.lines.proofs.own.back_to.Goals as goal
 pub returns : goal.returns
 returns c =
     let w = c.args.room.now in
-    let v = c.go-back.new.words in
+    let v = c.go_back.new.words in
     let a = 3072 * c.args.deal in
     let k = a + 3072 - a in
     let n = c.args.count in
     let part : k ≡ 3072 = omega arith in
-    let long : length v ≡ 3072 = c.go-back.auto.words ∙ deal_length w c.args.deal k c.requires.room c.requires.deal part in
-    let e = c.deal-ring.ensures in
+    let long : length v ≡ 3072 = c.go_back.auto.words ∙ deal_length w c.args.deal k c.requires.room c.requires.deal part in
+    let e = c.deal_ring.ensures in
     let is = deal_here w v c.args.deal k c.requires.room c.requires.deal part long n
     ∙ (ap (λ (x : Ring). lines_of v x) (sym e)
-    ∙ (c.go-back.ensures.lines
+    ∙ (c.go_back.ensures.lines
     ∙ (ap (λ (x : Ring). backed c.args.stay (lines_of (take k (drop a w)) x)) e
     ∙ ap (backed c.args.stay) (deal_part w c.args.deal k part n)))) in
     record {

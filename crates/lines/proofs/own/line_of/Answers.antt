@@ -12,6 +12,6 @@ returns c =
     let a = 3072 * c.args.deal in
     let k = a + 3072 - a in
     let part : k ≡ 3072 = omega arith in
-    c.line-at.ensures
-    ∙ (ap (λ (r : Ring). get_or (lines_of (take k (drop a w)) r) c.args.i Idle) c.deal-ring.ensures
+    c.line_at.ensures
+    ∙ (ap (λ (r : Ring). get_or (lines_of (take k (drop a w)) r) c.args.i Idle) c.deal_ring.ensures
     ∙ ap (λ (x : List Line). get_or x c.args.i Idle) (deal_part w c.args.deal k part c.args.count))

@@ -11,8 +11,8 @@ returns c =
     let a = 3072 * c.args.deal in
     let k = a + 3072 - a in
     let part : k ≡ 3072 = omega arith in
-    let e = ap (λ (r : Ring). r.count) c.deal-ring.ensures in
+    let e = ap (λ (r : Ring). r.count) c.deal_ring.ensures in
     record {
-      is = c.marks-in.ensures.is ∙ (ap (λ (r : Ring). marks_in (lines_of (take k (drop a w)) r)) c.deal-ring.ensures ∙ ap marks_in (deal_part w c.args.deal k part c.args.count));
-      few = omega (arith, c.marks-in.ensures.few);
+      is = c.marks_in.ensures.is ∙ (ap (λ (r : Ring). marks_in (lines_of (take k (drop a w)) r)) c.deal_ring.ensures ∙ ap marks_in (deal_part w c.args.deal k part c.args.count));
+      few = omega (arith, c.marks_in.ensures.few);
     }

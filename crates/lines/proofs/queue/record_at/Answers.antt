@@ -3,4 +3,4 @@ use Rattle.lines.proofs.queue.record_at.Goals as goal
 
 pub returns : goal.returns
 unfolding queue_lines
-returns c = c.line-at.ensures
+returns c = c.line_at.ensures

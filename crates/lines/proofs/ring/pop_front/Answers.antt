@@ -12,7 +12,7 @@ returns c =
     let either : ((r.start + 1 < r.cap) × (s ≡ r.start + 1)) ⊎ ((r.cap ≤ r.start + 1) × (s ≡ 0)) = elim c.if-ring.branch [ then-ring v ↦ inl (v.if-ring.true, v.start-is) | else-ring v ↦ inr (v.if-ring.false, v.start-is) ] in
     let low : s < r.cap = elim either [ inl p ↦ omega arith | inr p ↦ omega arith ] in
     record {
-      lines = pop_lines w r s (omega arith) (omega arith) c.requires.1 either ∙ ap (λ x. x ∷ lines_of w (ring r.cap s (r.count - 1))) (sym c.read-line-line.ensures);
+      lines = pop_lines w r s (omega arith) (omega arith) c.requires.1 either ∙ ap (λ x. x ∷ lines_of w (ring r.cap s (r.count - 1))) (sym c.read_line-line.ensures);
       holds = record { words = omega arith; start = low; count = omega arith; small = omega arith };
       shrunk = (refl, omega arith);
     }

@@ -10,17 +10,17 @@ pub loop-i-init : goal.loop-i-init
 unfolding some_bars
 loop-i-init c = refl
 
-pub returns-then-is-in-way : goal.returns-then-is-in-way
-returns-then-is-in-way c =
+pub returns-then-is_in_way : goal.returns-then-is_in_way
+returns-then-is_in_way c =
     let ls = lines_of c.args.words.now c.args.ring in
     let w = c.args.want in
-    sym (bars_at w ls c.loop-i.i (omega (arith, length_lines c.args.words.now c.args.ring)) (sym (ap (bars w) c.line-at.ensures) ∙ sym c.if-is-in-way.ensures))
+    sym (bars_at w ls c.loop-i.i (omega (arith, length_lines c.args.words.now c.args.ring)) (sym (ap (bars w) c.line_at.ensures) ∙ sym c.if-is_in_way.ensures))
 
 pub loop-i-preserved : goal.loop-i-preserved
 loop-i-preserved c =
     let ls = lines_of c.args.words.now c.args.ring in
     let w = c.args.want in
-    bars_more w ls c.loop-i.i (omega (arith, length_lines c.args.words.now c.args.ring)) c.loop-i.invariant (sym (ap (bars w) c.line-at.ensures) ∙ sym c.if-is-in-way.ensures)
+    bars_more w ls c.loop-i.i (omega (arith, length_lines c.args.words.now c.args.ring)) c.loop-i.invariant (sym (ap (bars w) c.line_at.ensures) ∙ sym c.if-is_in_way.ensures)
 
 pub returns : goal.returns
 returns c =

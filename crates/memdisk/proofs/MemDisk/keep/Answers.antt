@@ -18,7 +18,7 @@ returns c =
     let way : ((n < r) × (k ≡ n)) ⊎ ((r ≤ n) × (k ≡ 0)) =
     elim c.if-n-room.branch [ then-n-room w ↦ inl (w.if-n-room.true, w.place-is) | else-n-room w ↦ inr (w.if-n-room.false, w.place-is) ] in
     record {
-      table = kept_somewhere m.saved_of.now m.saved.now c.copy-in.new.words c.args.words.now m.held n r k c.args.p c.entries-n.ensures c.room-room.ensures way (omega arith) c.copy-in.ensures c.copy-in.auto.words (omega arith);
+      table = kept_somewhere m.saved_of.now m.saved.now c.copy_in.new.words c.args.words.now m.held n r k c.args.p c.entries-n.ensures c.room-room.ensures way (omega arith) c.copy_in.ensures c.copy_in.auto.words (omega arith);
       shown = refl;
       power = record { on = refl; left = refl; dues = refl; cuts = refl; choice = refl };
     }

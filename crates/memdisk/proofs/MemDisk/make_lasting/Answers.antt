@@ -17,4 +17,4 @@ returns-in-Cut c =
     let n = c.ask.new.self in
     let r = c.ask.result in
     let f = unserved r c.in-Cut.is in
-    record { syncs = syncing_goes m n r _ c.ask.ensures f c.saturating-sub-self.ensures; counts = counts_kept m n _ _ (counts_unserved m n r c.ask.ensures f) refl refl refl }
+    record { syncs = syncing_goes m n r _ c.ask.ensures f c.saturating_sub-self.ensures; counts = counts_kept m n _ _ (counts_unserved m n r c.ask.ensures f) refl refl refl }

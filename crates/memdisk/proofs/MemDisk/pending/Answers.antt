@@ -3,4 +3,4 @@ use Rattle.memdisk.proofs.Counting.{length_dues}
 use Rattle.memdisk.proofs.MemDisk.pending.Goals as goal
 
 pub returns : goal.returns
-returns c = c.min.ensures ∙ ap (min c.args.self.now.due) c.cut-room.ensures ∙ sym (length_dues _ _)
+returns c = c.min.ensures ∙ ap (min c.args.self.now.due) c.cut_room.ensures ∙ sym (length_dues _ _)

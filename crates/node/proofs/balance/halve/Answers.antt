@@ -13,22 +13,22 @@ returns c =
     let h = c.args.h in
     let m = n - h in
     let f = set c.args.fresh.now 1 (get_or p 1 0) in
-    let a = c.move-tail.new.to in
-    let b = c.move-tail-2.new.to in
+    let a = c.move_tail.new.to in
+    let b = c.move_tail-2.new.to in
     let lp : length p ≡ 512 = omega arith in
     let lf : length f ≡ 512 = length-set c.args.fresh.now 1 (get_or p 1 0) ∙ c.requires.1.1 in
-    let la : length a ≡ 255 = c.move-tail.auto.to ∙ length_row f 255 2 lf (omega arith) in
-    let lb : length b ≡ 255 = c.move-tail-2.auto.to ∙ length_row (put_mid 2 255 f a) 255 257 (first_length f a lf la) (omega arith) in
+    let la : length a ≡ 255 = c.move_tail.auto.to ∙ length_row f 255 2 lf (omega arith) in
+    let lb : length b ≡ 255 = c.move_tail-2.auto.to ∙ length_row (put_mid 2 255 f a) 255 257 (first_length f a lf la) (omega arith) in
     let hn : n ≤ 255 = omega arith in
     let hm : m ≤ 255 = omega arith in
     let cnt = after_count f a b m lf la lb in
     let ks : (keys_of (set p 0 h) ≡ take h (keys_of p)) × (keys_of (after f a b m) ≡ drop h (keys_of p)) = (
       cut_row p h n 2 (omega arith) c.requires.1.0 lp,
-      ap (λ q. take q (drop 2 (after f a b m))) cnt ∙ after_keys f a b m lf la lb m hm ∙ c.move-tail.ensures ∙ ap (λ (r : List ℕ). drop h r) (take-take n 255 (drop 2 p) hn),
+      ap (λ q. take q (drop 2 (after f a b m))) cnt ∙ after_keys f a b m lf la lb m hm ∙ c.move_tail.ensures ∙ ap (λ (r : List ℕ). drop h r) (take-take n 255 (drop 2 p) hn),
     ) in
     let ws : (words_of (set p 0 h) ≡ take h (words_of p)) × (words_of (after f a b m) ≡ drop h (words_of p)) = (
       cut_row p h n 257 (omega arith) c.requires.1.0 lp,
-      ap (λ q. take q (drop 257 (after f a b m))) cnt ∙ after_words f a b m lf la lb m hm ∙ c.move-tail-2.ensures ∙ ap (λ (r : List ℕ). drop h r) (take-take n 255 (drop 257 p) hn),
+      ap (λ q. take q (drop 257 (after f a b m))) cnt ∙ after_words f a b m lf la lb m hm ∙ c.move_tail-2.ensures ∙ ap (λ (r : List ℕ). drop h r) (take-take n 255 (drop 257 p) hn),
     ) in
     record {
       node = ((length-set p 0 h ∙ lp, omega (arith, get_or-set_same p 0 h 0 (omega arith))), (after_length f a b m lf la lb, omega (arith, cnt)));

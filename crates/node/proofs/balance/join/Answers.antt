@@ -13,17 +13,17 @@ pub returns : goal.returns
 returns c =
     let b = c.args.left.now in let d = c.args.right.now in let l = c.args.l in
     let n = count_of b in
-    let big : 241 ≤ count_of b + count_of d = omega (arith, c.if-n-m-le-JOIN-MOST.false) in
+    let big : 241 ≤ count_of b + count_of d = omega (arith, c.if-n-m-le-JOIN_MOST.false) in
     record {
       joined = elim c.if-n-lt-LEAST.branch [
         | then-n-lt-LEAST w ↦ moved _ _ _ _ l (pairs_of b ++ pairs_of d) w.left-is w.right-is
-            (lend_left b d w.insert-at.new.page w.remove-at.new.page l c.requires big w.if-n-lt-LEAST.true w.insert-at.ensures.node w.insert-at.ensures.level w.insert-at.ensures.pairs w.remove-at.ensures.node w.remove-at.ensures.level w.remove-at.ensures.pairs)
+            (lend_left b d w.insert_at.new.page w.remove_at.new.page l c.requires big w.if-n-lt-LEAST.true w.insert_at.ensures.node w.insert_at.ensures.level w.insert_at.ensures.pairs w.remove_at.ensures.node w.remove_at.ensures.level w.remove_at.ensures.pairs)
         | else-n-lt-LEAST+then-m-lt-LEAST w ↦ moved _ _ _ _ l (pairs_of b ++ pairs_of d) w.left-is w.right-is
             (let pos : 85 ≤ n = w.if-n-lt-LEAST.false in
             let x : 2 + n - 1 ≡ 2 + (n - 1) = omega arith in let y : 257 + n - 1 ≡ 257 + (n - 1) = omega arith in
-            lend_right b d w.remove-at-then-m-lt-LEAST.new.page w.insert-at-then-m-lt-LEAST.new.page l (n - 1) (omega arith) c.requires big w.if-m-lt-LEAST.true w.remove-at-then-m-lt-LEAST.ensures.node w.remove-at-then-m-lt-LEAST.ensures.level w.remove-at-then-m-lt-LEAST.ensures.pairs
-            w.insert-at-then-m-lt-LEAST.ensures.node w.insert-at-then-m-lt-LEAST.ensures.level
-            (w.insert-at-then-m-lt-LEAST.ensures.pairs ∙ ap₂ (λ (i j : ℕ). insert (pairs_of d) 0 (get_or b i 0, get_or b j 0)) x y))
+            lend_right b d w.remove_at-then-m-lt-LEAST.new.page w.insert_at-then-m-lt-LEAST.new.page l (n - 1) (omega arith) c.requires big w.if-m-lt-LEAST.true w.remove_at-then-m-lt-LEAST.ensures.node w.remove_at-then-m-lt-LEAST.ensures.level w.remove_at-then-m-lt-LEAST.ensures.pairs
+            w.insert_at-then-m-lt-LEAST.ensures.node w.insert_at-then-m-lt-LEAST.ensures.level
+            (w.insert_at-then-m-lt-LEAST.ensures.pairs ∙ ap₂ (λ (i j : ℕ). insert (pairs_of d) 0 (get_or b i 0, get_or b j 0)) x y))
         | else-n-lt-LEAST+else-m-lt-LEAST w ↦ moved _ _ _ _ l (pairs_of b ++ pairs_of d) w.left-is w.right-is (as_is b d l c.requires w.if-n-lt-LEAST.false w.if-m-lt-LEAST.false)
       ];
       slack = sym (lt-ltb 240 (count_of b + count_of d) big);

@@ -3,12 +3,12 @@ use Rattle.pagemem.specs.Memory.{kept}
 use Rattle.pagemem.proofs.Marks.{fits_of, taken}
 use Rattle.pagemem.proofs.PageMemPageStore.alloc.Goals as goal
 
-pub take-free-requires : goal.take-free-requires
-take-free-requires c =
+pub take_free-requires : goal.take_free-requires
+take_free-requires c =
     let m = c.args.self.now in (c.requires.asks.1, (fits_of true m.marks.now m.words.now c.requires.whole.1).counted)
 
 pub returns : goal.returns
 returns c =
-    let m = c.args.self.now in let e = c.take-free.ensures in
-    let t = taken m.marks.now c.take-free.new.marks m.words.now c.take-free.result (fits_of true m.marks.now m.words.now c.requires.whole.1) c.requires.asks.1 e.near e.was e.is in
+    let m = c.args.self.now in let e = c.take_free.ensures in
+    let t = taken m.marks.now c.take_free.new.marks m.words.now c.take_free.result (fits_of true m.marks.now m.words.now c.requires.whole.1) c.requires.asks.1 e.near e.was e.is in
     record { got = t.0; onto = λ a h. kept refl t.1; tied = search rules }

@@ -3,10 +3,10 @@ use Rattle.script.proofs.Words.{front_is, back_is}
 use Rattle.script.proofs.line.read_order.Goals as goal
 
 pub returns-in-err-verb : goal.returns-in-err-verb
-returns-in-err-verb c = rw c.from-residual.ensures (no_verb _ _ c.word-end-end.ensures (simp front_is at c.in-err-verb.ensures))
+returns-in-err-verb c = rw c.from-residual.ensures (no_verb _ _ c.word_end-end.ensures (simp front_is at c.in-err-verb.ensures))
 
 pub returns-in-err-numbers : goal.returns-in-err-numbers
-returns-in-err-numbers c = rw c.from-residual-in-err-numbers.ensures (bad_numbers _ _ c.word-end-end.ensures (simp back_is at c.in-err-numbers.ensures))
+returns-in-err-numbers c = rw c.from-residual-in-err-numbers.ensures (bad_numbers _ _ c.word_end-end.ensures (simp back_is at c.in-err-numbers.ensures))
 
 pub returns : goal.returns
-returns c = an_order _ _ _ _ c.word-end-end.ensures (simp front_is at c.in-ok-verb.ensures) (simp back_is at c.in-ok-numbers.ensures)
+returns c = an_order _ _ _ _ c.word_end-end.ensures (simp front_is at c.in-ok-verb.ensures) (simp back_is at c.in-ok-numbers.ensures)

@@ -6,8 +6,8 @@ use Rattle.tree.proofs.Growth.{leaf_grew, leaf_level, once_still, inner_same, in
 use Rattle.std.proofs.lemmas.Result.{IfOk-weaker}
 use Rattle.tree.proofs.insert.+put_at.Goals as goal
 
-pub leaf-put-requires : goal.leaf-put-requires
-leaf-put-requires g t c =
+pub leaf_put-requires : goal.leaf_put-requires
+leaf_put-requires g t c =
     record {
       asks = (let d = g.S.PageStore.state c.args.s.now in (
         mine_here d c.args.l c.args.p c.requires.asks.1.0,
@@ -26,17 +26,17 @@ leaf-put-requires g t c =
 pub returns-then-l-eq0 : goal.returns-then-l-eq0
 returns-then-l-eq0 g t c =
     record {
-      got = (let d = g.S.PageStore.state c.args.s.now in let e = g.S.PageStore.state c.leaf-put.new.s in
-          IfOk-weaker c.leaf-put.result _ _ (λ r h. (
+      got = (let d = g.S.PageStore.state c.args.s.now in let e = g.S.PageStore.state c.leaf_put.new.s in
+          IfOk-weaker c.leaf_put.result _ _ (λ r h. (
             grew_more 3 (3 * c.args.l + 3) d e c.args.l c.args.p c.args.k c.args.x r.more (omega arith) (leaf_grew 3 d e c.args.l c.args.p c.args.k c.args.x r.more c.if-l-eq0.true h.0 c.requires.asks.1.1.0),
             h.1 ∙ ap (λ es. not (is_some (find c.args.k es))) (sym (leaf_pairs d.page c.args.l c.args.p c.if-l-eq0.true)),
-          )) c.leaf-put.ensures.got);
+          )) c.leaf_put.ensures.got);
       onto = search rules;
       tied = search rules;
     }
 
-pub find-way-requires : goal.find-way-requires
-find-way-requires g t c =
+pub find_way-requires : goal.find_way-requires
+find_way-requires g t c =
     record {
       asks = (let d = g.S.PageStore.state c.args.s.now in
           let n : 0 < c.args.l = omega (arith, c.if-l-eq0.false) in
@@ -44,9 +44,9 @@ find-way-requires g t c =
       whole = search rules;
     }
 
-pub put-at-requires : goal.put-at-requires
-put-at-requires g t c κs within =
-    let d = g.S.PageStore.state c.args.s.now in let e = g.S.PageStore.state c.find-way.new.s in
+pub put_at-requires : goal.put_at-requires
+put_at-requires g t c κs within =
+    let d = g.S.PageStore.state c.args.s.now in let e = g.S.PageStore.state c.find_way.new.s in
     let n : 0 < c.args.l = omega (arith, c.if-l-eq0.false) in
     let w = c.in-ok-w.ensures.got in
     let b = below d e c.args.l (c.args.l - 1) c.args.p c.in-ok-w.w.down c.args.k c.in-ok-w.w.at (omega arith) w.3 c.requires.asks.0 c.requires.asks.1.0 w.0 w.1 in
@@ -62,7 +62,7 @@ overflow-add-w g t c =
 pub enter-requires : goal.enter-requires
 enter-requires g t c =
     record {
-      asks = (let d = g.S.PageStore.state c.args.s.now in let d1 = g.S.PageStore.state c.find-way.new.s in let e1 = g.S.PageStore.state c.put-at.new.s in
+      asks = (let d = g.S.PageStore.state c.args.s.now in let d1 = g.S.PageStore.state c.find_way.new.s in let e1 = g.S.PageStore.state c.put_at.new.s in
           let n : 0 < c.args.l = omega (arith, c.if-l-eq0.false) in
           let w = c.in-ok-w.ensures.got in let r = c.in-ok-t.ensures.got in
           let m = inner_more d d1 e1 e1 c.args.l (c.args.l - 1) c.args.p c.in-ok-w.w.down c.args.k c.args.x c.in-ok-w.w.at (3 * (c.args.l - 1) + 3) (3 * c.args.l + 3) c.in-ok-t.t.more None (c.in-Some.key, c.in-Some.q) (omega arith) (omega arith) c.in-Some.is w.3 c.requires.asks.0 c.requires.asks.1.0 c.requires.asks.1.1.0 w.0 w.1 r.0 in
@@ -74,7 +74,7 @@ enter-requires g t c =
 pub returns-in-Some : goal.returns-in-Some
 returns-in-Some g t c =
     record {
-      got = (let d = g.S.PageStore.state c.args.s.now in let d1 = g.S.PageStore.state c.find-way.new.s in let e1 = g.S.PageStore.state c.put-at.new.s in let e = g.S.PageStore.state c.enter.new.s in
+      got = (let d = g.S.PageStore.state c.args.s.now in let d1 = g.S.PageStore.state c.find_way.new.s in let e1 = g.S.PageStore.state c.put_at.new.s in let e = g.S.PageStore.state c.enter.new.s in
           let n : 0 < c.args.l = omega (arith, c.if-l-eq0.false) in
           let w = c.in-ok-w.ensures.got in let r = c.in-ok-t.ensures.got in
           let m = inner_more d d1 e1 e c.args.l (c.args.l - 1) c.args.p c.in-ok-w.w.down c.args.k c.args.x c.in-ok-w.w.at (3 * (c.args.l - 1) + 3) (3 * c.args.l + 3) c.in-ok-t.t.more c.in-ok-more.more (c.in-Some.key, c.in-Some.q) (omega arith) (omega arith) c.in-Some.is w.3 c.requires.asks.0 c.requires.asks.1.0 c.requires.asks.1.1.0 w.0 w.1 r.0 in
@@ -87,7 +87,7 @@ returns-in-Some g t c =
 pub returns : goal.returns
 returns g t c =
     record {
-      got = (let d = g.S.PageStore.state c.args.s.now in let d1 = g.S.PageStore.state c.find-way.new.s in let e1 = g.S.PageStore.state c.put-at.new.s in
+      got = (let d = g.S.PageStore.state c.args.s.now in let d1 = g.S.PageStore.state c.find_way.new.s in let e1 = g.S.PageStore.state c.put_at.new.s in
           let n : 0 < c.args.l = omega (arith, c.if-l-eq0.false) in
           let w = c.in-ok-w.ensures.got in let r = c.in-ok-t.ensures.got in
           let b = below d d1 c.args.l (c.args.l - 1) c.args.p c.in-ok-w.w.down c.args.k c.in-ok-w.w.at (omega arith) w.3 c.requires.asks.0 c.requires.asks.1.0 w.0 w.1 in (

@@ -8,9 +8,9 @@ pub returns : goal.returns
 returns g c =
     let st = g.S.PageStore.state in
     record {
-      got = IfOk-weaker c.write.result _ _ (λ o h. entered_one (st c.args.s.now) (st c.read.new.self) (st c.write.new.self) c.args.p c.read.new.into c.set-word.new.page
+      got = IfOk-weaker c.write.result _ _ (λ o h. entered_one (st c.args.s.now) (st c.read.new.self) (st c.write.new.self) c.args.p c.read.new.into c.set_word.new.page
           (λ b. set (pairs_of b) c.args.i ((get_or (pairs_of b) c.args.i (0, 0)).0, c.args.x))
-          c.in-ok-read.ensures.got.0 c.in-ok-read.ensures.got.1 h c.set-word.ensures) c.write.ensures.got;
+          c.in-ok-read.ensures.got.0 c.in-ok-read.ensures.got.1 h c.set_word.ensures) c.write.ensures.got;
       onto = search rules;
       tied = search rules;
     }

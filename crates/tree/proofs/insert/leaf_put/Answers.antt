@@ -4,8 +4,8 @@ use Rattle.node.proofs.Places.{pairs_length}
 use Rattle.tree.proofs.Steps.{leaf_change, leaf_enter}
 use Rattle.tree.proofs.insert.leaf_put.Goals as goal
 
-pub spot-of-requires : goal.spot-of-requires
-spot-of-requires g c =
+pub spot_of-requires : goal.spot_of-requires
+spot_of-requires g c =
     record { asks = ((omega (arith, c.requires.asks.1.1.1.0), (c.requires.asks.0, c.requires.asks.1.0))); whole = search rules }
 
 pub change-requires : goal.change-requires
@@ -32,7 +32,7 @@ returns-then-there g c =
     record {
       got = (let d = g.S.PageStore.state c.args.s.now in let b = d.page c.args.p in
           let t : Spot (pairs_of b) c.args.k c.in-ok-i.i true = subst (λ f. Spot (pairs_of b) c.args.k c.in-ok-i.i f) c.if-there.true c.in-ok-i.ensures.got.0 in (
-            leaf_change d (g.S.PageStore.state c.spot-of.new.s) (g.S.PageStore.state c.change.new.s) c.args.p c.args.k c.args.x c.in-ok-i.i c.in-ok-i.ensures.got.1 c.requires.asks.1.1.0 t c.in-ok-change.ensures.got,
+            leaf_change d (g.S.PageStore.state c.spot_of.new.s) (g.S.PageStore.state c.change.new.s) c.args.p c.args.k c.args.x c.in-ok-i.i c.in-ok-i.ensures.got.1 c.requires.asks.1.1.0 t c.in-ok-change.ensures.got,
             sym (ap not t.was),
           ));
       onto = search rules;
@@ -63,7 +63,7 @@ returns g c =
     record {
       got = (let d = g.S.PageStore.state c.args.s.now in let b = d.page c.args.p in
           let t : Spot (pairs_of b) c.args.k c.in-ok-i.i false = subst (λ f. Spot (pairs_of b) c.args.k c.in-ok-i.i f) c.if-there.false c.in-ok-i.ensures.got.0 in (
-            leaf_enter d (g.S.PageStore.state c.spot-of.new.s) (g.S.PageStore.state c.enter.new.s) c.args.p c.args.k c.args.x c.in-ok-i.i c.in-ok-more.more c.in-ok-i.ensures.got.1 c.requires.asks.1.1.0 t c.in-ok-more.ensures.got,
+            leaf_enter d (g.S.PageStore.state c.spot_of.new.s) (g.S.PageStore.state c.enter.new.s) c.args.p c.args.k c.args.x c.in-ok-i.i c.in-ok-more.more c.in-ok-i.ensures.got.1 c.requires.asks.1.1.0 t c.in-ok-more.ensures.got,
             sym (ap not t.was),
           ));
       onto = search rules;

@@ -8,8 +8,8 @@ pub returns-then-height-eq0 : goal.returns-then-height-eq0
 returns-then-height-eq0 g c =
     record { got = (first_tree (g.S.PageStore.state c.args.s.now) (g.S.PageStore.state c.build.new.s) c.args.height c.args.root c.args.k c.args.x c.in-ok-p.p c.if-height-eq0.true c.requires.asks.1.0 c.ranges.k.fits c.in-ok-p.ensures.got); onto = search rules; tied = search rules }
 
-pub put-at-requires : goal.put-at-requires
-put-at-requires g c =
+pub put_at-requires : goal.put_at-requires
+put_at-requires g c =
     record {
       asks = (let d = g.S.PageStore.state c.args.s.now in
           let n : 0 < c.args.height = omega (arith, c.if-height-eq0.false) in
@@ -22,7 +22,7 @@ put-at-requires g c =
 pub returns-in-Some : goal.returns-in-Some
 returns-in-Some g c =
     record {
-      got = (let d = g.S.PageStore.state c.args.s.now in let e1 = g.S.PageStore.state c.put-at.new.s in let e = g.S.PageStore.state c.build-in-Some.new.s in
+      got = (let d = g.S.PageStore.state c.args.s.now in let e1 = g.S.PageStore.state c.put_at.new.s in let e = g.S.PageStore.state c.build-in-Some.new.s in
           let n : 0 < c.args.height = omega (arith, c.if-height-eq0.false) in
           let r = c.in-ok-t.ensures.got in (
             taller_tree d e1 e c.args.height (c.args.height - 1) c.args.root c.args.k c.args.x c.in-ok-r.r (3 * (c.args.height - 1) + 3) c.in-ok-t.t.more c.in-Some.field-0 (omega arith) c.in-Some.is (omega arith) c.requires.asks.0 c.ranges.k.fits r.0 c.in-ok-r.ensures.got,
@@ -35,7 +35,7 @@ returns-in-Some g c =
 pub returns : goal.returns
 returns g c =
     record {
-      got = (let d = g.S.PageStore.state c.args.s.now in let e1 = g.S.PageStore.state c.put-at.new.s in
+      got = (let d = g.S.PageStore.state c.args.s.now in let e1 = g.S.PageStore.state c.put_at.new.s in
           let n : 0 < c.args.height = omega (arith, c.if-height-eq0.false) in
           let r = c.in-ok-t.ensures.got in (
             same_tree d e1 c.args.height (c.args.height - 1) c.args.root c.args.k c.args.x (3 * (c.args.height - 1) + 3) c.in-ok-t.t.more (omega arith) c.in-default.is (omega arith) c.requires.asks.0 c.ranges.k.fits r.0,

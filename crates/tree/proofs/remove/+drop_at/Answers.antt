@@ -7,8 +7,8 @@ use Rattle.tree.proofs.Falls.{leaf_shrunk}
 use Rattle.tree.proofs.Settle.{shrunk_more, not_thin, thin_mends, thin_mended, kid_wide}
 use Rattle.tree.proofs.remove.+drop_at.Goals as goal
 
-pub leaf-drop-requires : goal.leaf-drop-requires
-leaf-drop-requires g t c =
+pub leaf_drop-requires : goal.leaf_drop-requires
+leaf_drop-requires g t c =
     record {
       asks = (let d = g.S.PageStore.state c.args.s.now in (
         omega (arith, c.requires.asks.1.1.1.1),
@@ -27,17 +27,17 @@ leaf-drop-requires g t c =
 pub returns-then-l-eq0 : goal.returns-then-l-eq0
 returns-then-l-eq0 g t c =
     record {
-      got = (let d = g.S.PageStore.state c.args.s.now in let e = g.S.PageStore.state c.leaf-drop.new.s in
-          IfOk-weaker c.leaf-drop.result _ _ (λ r h. (
+      got = (let d = g.S.PageStore.state c.args.s.now in let e = g.S.PageStore.state c.leaf_drop.new.s in
+          IfOk-weaker c.leaf_drop.result _ _ (λ r h. (
             shrunk_more 1 (4 * c.args.l + 1) d e c.args.l c.args.p c.args.k r.thin (omega arith) (leaf_shrunk 1 d e c.args.l c.args.p c.args.k r.thin c.if-l-eq0.true h.0),
             h.1 ∙ ap (λ es. is_some (find c.args.k es)) (sym (leaf_pairs d.page c.args.l c.args.p c.if-l-eq0.true)),
-          )) c.leaf-drop.ensures.got);
+          )) c.leaf_drop.ensures.got);
       onto = search rules;
       tied = search rules;
     }
 
-pub find-way-requires : goal.find-way-requires
-find-way-requires g t c =
+pub find_way-requires : goal.find_way-requires
+find_way-requires g t c =
     record {
       asks = (let d = g.S.PageStore.state c.args.s.now in
           let n : 0 < c.args.l = omega (arith, c.if-l-eq0.false) in
@@ -45,9 +45,9 @@ find-way-requires g t c =
       whole = search rules;
     }
 
-pub drop-at-requires : goal.drop-at-requires
-drop-at-requires g t c κs within =
-    let d = g.S.PageStore.state c.args.s.now in let e = g.S.PageStore.state c.find-way.new.s in
+pub drop_at-requires : goal.drop_at-requires
+drop_at-requires g t c κs within =
+    let d = g.S.PageStore.state c.args.s.now in let e = g.S.PageStore.state c.find_way.new.s in
     let n : 0 < c.args.l = omega (arith, c.if-l-eq0.false) in
     let w = c.in-ok-w.ensures.got in
     let b = below d e c.args.l (c.args.l - 1) c.args.p c.in-ok-w.w.down c.args.k c.in-ok-w.w.at (omega arith) w.3 c.requires.asks.0 c.requires.asks.1.0 w.0 w.1 in
@@ -56,10 +56,10 @@ drop-at-requires g t c κs within =
 pub mend-requires : goal.mend-requires
 mend-requires g t c =
     record {
-      asks = (let d = g.S.PageStore.state c.args.s.now in let d1 = g.S.PageStore.state c.find-way.new.s in let e1 = g.S.PageStore.state c.drop-at.new.s in
+      asks = (let d = g.S.PageStore.state c.args.s.now in let d1 = g.S.PageStore.state c.find_way.new.s in let e1 = g.S.PageStore.state c.drop_at.new.s in
           let n : 0 < c.args.l = omega (arith, c.if-l-eq0.false) in
           let w = c.in-ok-w.ensures.got in let r = c.in-ok-t.ensures.got in (
-            thin_mends d d1 e1 c.args.l (c.args.l - 1) c.args.p c.in-ok-w.w.down c.args.k c.in-ok-w.w.at c.saturating-sub.result (4 * (c.args.l - 1) + 1) c.in-ok-t.t.thin (omega arith) c.if-t.true w.3 c.requires.asks.0 c.requires.asks.1.0 c.requires.asks.1.1.0 w.0 w.1 r.0 c.saturating-sub.ensures (c.requires.asks.1.1.1.0 n),
+            thin_mends d d1 e1 c.args.l (c.args.l - 1) c.args.p c.in-ok-w.w.down c.args.k c.in-ok-w.w.at c.saturating_sub.result (4 * (c.args.l - 1) + 1) c.in-ok-t.t.thin (omega arith) c.if-t.true w.3 c.requires.asks.0 c.requires.asks.1.0 c.requires.asks.1.1.0 w.0 w.1 r.0 c.saturating_sub.ensures (c.requires.asks.1.1.1.0 n),
             omega (arith, r.0.left, w.3.left, c.requires.asks.1.1.1.1),
           ));
       budget = omega (arith, c.in-ok-t.ensures.got.0.spends.spare, c.in-ok-w.ensures.got.3.spare, c.requires.budget, c.if-l-eq0.false);
@@ -69,11 +69,11 @@ mend-requires g t c =
 pub returns-then-t : goal.returns-then-t
 returns-then-t g t c =
     record {
-      got = (let d = g.S.PageStore.state c.args.s.now in let d1 = g.S.PageStore.state c.find-way.new.s in let e1 = g.S.PageStore.state c.drop-at.new.s in let e = g.S.PageStore.state c.mend.new.s in
+      got = (let d = g.S.PageStore.state c.args.s.now in let d1 = g.S.PageStore.state c.find_way.new.s in let e1 = g.S.PageStore.state c.drop_at.new.s in let e = g.S.PageStore.state c.mend.new.s in
           let n : 0 < c.args.l = omega (arith, c.if-l-eq0.false) in
           let w = c.in-ok-w.ensures.got in let r = c.in-ok-t.ensures.got in
           let b = below d d1 c.args.l (c.args.l - 1) c.args.p c.in-ok-w.w.down c.args.k c.in-ok-w.w.at (omega arith) w.3 c.requires.asks.0 c.requires.asks.1.0 w.0 w.1 in (
-            thin_mended d d1 e1 e c.args.l (c.args.l - 1) c.args.p c.in-ok-w.w.down c.args.k c.in-ok-w.w.at c.saturating-sub.result (4 * (c.args.l - 1) + 1) 3 (4 * c.args.l + 1) c.in-ok-t.t.thin c.in-ok-thin.thin (omega arith) (omega arith) c.if-t.true w.3 c.requires.asks.0 c.requires.asks.1.0 c.requires.asks.1.1.0 w.0 w.1 r.0 c.saturating-sub.ensures (c.requires.asks.1.1.1.0 n) c.in-ok-thin.ensures.got,
+            thin_mended d d1 e1 e c.args.l (c.args.l - 1) c.args.p c.in-ok-w.w.down c.args.k c.in-ok-w.w.at c.saturating_sub.result (4 * (c.args.l - 1) + 1) 3 (4 * c.args.l + 1) c.in-ok-t.t.thin c.in-ok-thin.thin (omega arith) (omega arith) c.if-t.true w.3 c.requires.asks.0 c.requires.asks.1.0 c.requires.asks.1.1.0 w.0 w.1 r.0 c.saturating_sub.ensures (c.requires.asks.1.1.1.0 n) c.in-ok-thin.ensures.got,
             r.1 ∙ ap (λ o. is_some o) (sym b.finds),
           ));
       onto = search rules;
@@ -83,7 +83,7 @@ returns-then-t g t c =
 pub returns : goal.returns
 returns g t c =
     record {
-      got = (let d = g.S.PageStore.state c.args.s.now in let d1 = g.S.PageStore.state c.find-way.new.s in let e1 = g.S.PageStore.state c.drop-at.new.s in
+      got = (let d = g.S.PageStore.state c.args.s.now in let d1 = g.S.PageStore.state c.find_way.new.s in let e1 = g.S.PageStore.state c.drop_at.new.s in
           let n : 0 < c.args.l = omega (arith, c.if-l-eq0.false) in
           let w = c.in-ok-w.ensures.got in let r = c.in-ok-t.ensures.got in
           let b = below d d1 c.args.l (c.args.l - 1) c.args.p c.in-ok-w.w.down c.args.k c.in-ok-w.w.at (omega arith) w.3 c.requires.asks.0 c.requires.asks.1.0 w.0 w.1 in (

@@ -1,4 +1,4 @@
 use Rattle.tree.proofs.remove.+drop_at.Given as goal
 
-abbrev pub decreases-drop-at : goal.decreases-drop-at
-decreases-drop-at g l = l.l
+abbrev pub decreases-drop_at : goal.decreases-drop_at
+decreases-drop_at g l = l.l

@@ -12,8 +12,8 @@ returns-then-height-eq0 g c =
       tied = search rules;
     }
 
-pub drop-at-requires : goal.drop-at-requires
-drop-at-requires g c =
+pub drop_at-requires : goal.drop_at-requires
+drop_at-requires g c =
     record {
       asks = (let d = g.S.PageStore.state c.args.s.now in
           let n : 0 < c.args.height = omega (arith, c.if-height-eq0.false) in
@@ -26,7 +26,7 @@ drop-at-requires g c =
 pub crown-requires : goal.crown-requires
 crown-requires g c =
     record {
-      asks = (let d = g.S.PageStore.state c.args.s.now in let e1 = g.S.PageStore.state c.drop-at.new.s in
+      asks = (let d = g.S.PageStore.state c.args.s.now in let e1 = g.S.PageStore.state c.drop_at.new.s in
           let n : 0 < c.args.height = omega (arith, c.if-height-eq0.false) in
           let r = c.in-ok-t.ensures.got in (
             worn (4 * (c.args.height - 1) + 1) d e1 c.args.height (c.args.height - 1) c.args.root c.args.k c.in-ok-t.t.thin (omega arith) c.if-t.true c.ranges.k.fits c.requires.asks.0 r.0,
@@ -42,7 +42,7 @@ crown-requires g c =
 pub returns-then-t : goal.returns-then-t
 returns-then-t g c =
     record {
-      got = (let d = g.S.PageStore.state c.args.s.now in let e1 = g.S.PageStore.state c.drop-at.new.s in let e = g.S.PageStore.state c.crown.new.s in
+      got = (let d = g.S.PageStore.state c.args.s.now in let e1 = g.S.PageStore.state c.drop_at.new.s in let e = g.S.PageStore.state c.crown.new.s in
           let n : 0 < c.args.height = omega (arith, c.if-height-eq0.false) in
           let r = c.in-ok-t.ensures.got in
           let a = sound_asks d c.args.height (c.args.height - 1) c.args.root c.args.k (omega arith) c.ranges.k.fits c.requires.asks.0 in (
@@ -56,7 +56,7 @@ returns-then-t g c =
 pub returns : goal.returns
 returns g c =
     record {
-      got = (let d = g.S.PageStore.state c.args.s.now in let e1 = g.S.PageStore.state c.drop-at.new.s in
+      got = (let d = g.S.PageStore.state c.args.s.now in let e1 = g.S.PageStore.state c.drop_at.new.s in
           let n : 0 < c.args.height = omega (arith, c.if-height-eq0.false) in
           let r = c.in-ok-t.ensures.got in (
             kept_root (4 * (c.args.height - 1) + 1) d e1 c.args.height (c.args.height - 1) c.args.root c.args.k c.in-ok-t.t.thin (omega arith) c.if-t.false (omega arith) c.ranges.k.fits c.requires.asks.0 c.requires.asks.1.0 r.0,

@@ -2,8 +2,8 @@ use Rattle.std.proofs.Common.{ℕ, ap, arith, rules}
 use Rattle.tree.proofs.Amends.{near_read, mend_all, mend_here}
 use Rattle.tree.proofs.remove.mend.Goals as goal
 
-pub join-pages-requires : goal.join-pages-requires
-join-pages-requires g c =
+pub join_pages-requires : goal.join_pages-requires
+join_pages-requires g c =
     let st = g.S.PageStore.state in let r = c.in-ok-read.ensures.got in
     record {
       asks = (
@@ -20,7 +20,7 @@ write-requires g c =
     let st = g.S.PageStore.state in let r = c.in-ok-read.ensures.got in let m = c.in-ok-more.ensures.got in
     record {
       asks = (
-        mend_here (st c.args.s.now) (st c.read.new.self) (st c.join-pages.new.s) c.args.l c.args.p c.args.j c.entry-a.result.1 c.entry-c.result.1 c.in-ok-more.more c.read.new.into r.0 r.1 c.requires.asks.0
+        mend_here (st c.args.s.now) (st c.read.new.self) (st c.join_pages.new.s) c.args.l c.args.p c.args.j c.entry-a.result.1 c.entry-c.result.1 c.in-ok-more.more c.read.new.into r.0 r.1 c.requires.asks.0
             (ap (λ (e : ℕ × ℕ). e.1) c.entry-a.ensures) (ap (λ (e : ℕ × ℕ). e.1) c.entry-c.ensures) m,
         (omega (arith, r.1.spare, m.spends.spare, c.requires.budget), c.amend.ensures.is.0),
       );
@@ -31,7 +31,7 @@ pub returns : goal.returns
 returns g c =
     let st = g.S.PageStore.state in let r = c.in-ok-read.ensures.got in
     record {
-      got = mend_all (st c.args.s.now) (st c.read.new.self) (st c.join-pages.new.s) (st c.write.new.self) c.args.l c.args.p c.args.j c.entry-a.result.1 c.entry-c.result.1 c.count.result c.in-ok-more.more c.read.new.into c.amend.new.page
+      got = mend_all (st c.args.s.now) (st c.read.new.self) (st c.join_pages.new.s) (st c.write.new.self) c.args.l c.args.p c.args.j c.entry-a.result.1 c.entry-c.result.1 c.count.result c.in-ok-more.more c.read.new.into c.amend.new.page
           r.0 r.1 c.requires.asks.0 (ap (λ (e : ℕ × ℕ). e.1) c.entry-a.ensures) (ap (λ (e : ℕ × ℕ). e.1) c.entry-c.ensures) c.in-ok-more.ensures.got c.amend.ensures c.count.ensures c.in-ok-write.ensures.got;
       onto = search rules;
       tied = search rules;

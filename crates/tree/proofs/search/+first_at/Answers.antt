@@ -24,8 +24,8 @@ returns-then-l-eq0 g t c =
       tied = search rules;
     }
 
-pub first-at-requires : goal.first-at-requires
-first-at-requires g t c κs within =
+pub first_at-requires : goal.first_at-requires
+first_at-requires g t c κs within =
     let d = g.S.PageStore.state c.args.s.now in let e = g.S.PageStore.state c.head.new.s in
     let n : 0 < c.args.l = omega (arith, c.if-l-eq0.false) in
     let w = c.in-ok-e.ensures.got in
@@ -42,7 +42,7 @@ returns g t c =
           let n : 0 < c.args.l = omega (arith, c.if-l-eq0.false) in
           let w = c.in-ok-e.ensures.got in
           let f = first_inner d c.args.l (c.args.l - 1) c.args.p c.in-ok-e.e.1 c.requires.asks.0.0 (omega arith) c.requires.asks.0.1 c.requires.asks.1.0 (ap (λ y. y.1) w.0) in
-          IfOk-weaker c.first-at.result _ _ (λ o h. (h.0 ∙ ap (λ (v : ℕ → List ℕ). first (pairs_at v (c.args.l - 1) c.in-ok-e.e.1)) w.1.page ∙ sym f, still_on 1 (c.args.l - 1 + 1) (c.args.l + 1) d e _ (omega arith) w.1 h.1)) c.first-at.ensures.got);
+          IfOk-weaker c.first_at.result _ _ (λ o h. (h.0 ∙ ap (λ (v : ℕ → List ℕ). first (pairs_at v (c.args.l - 1) c.in-ok-e.e.1)) w.1.page ∙ sym f, still_on 1 (c.args.l - 1 + 1) (c.args.l + 1) d e _ (omega arith) w.1 h.1)) c.first_at.ensures.got);
       onto = search rules;
       tied = search rules;
     }

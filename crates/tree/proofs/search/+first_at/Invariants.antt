@@ -1,4 +1,4 @@
 use Rattle.tree.proofs.search.+first_at.Given as goal
 
-abbrev pub decreases-first-at : goal.decreases-first-at
-decreases-first-at g l = l.l
+abbrev pub decreases-first_at : goal.decreases-first_at
+decreases-first_at g l = l.l

@@ -4,8 +4,8 @@ use Rattle.node.specs.Pairs.{find}
 use Rattle.tree.proofs.Down.{asks_leaf, asks_inner, mine_here, leaf_pairs, below, still_more, still_on}
 use Rattle.tree.proofs.search.+get_at.Goals as goal
 
-pub leaf-get-requires : goal.leaf-get-requires
-leaf-get-requires g t c =
+pub leaf_get-requires : goal.leaf_get-requires
+leaf_get-requires g t c =
     record {
       asks = (let d = g.S.PageStore.state c.args.s.now in
           (omega (arith, c.requires.asks.1.1), (mine_here d c.args.l c.args.p c.requires.asks.1.0, asks_leaf d c.args.l c.args.p c.args.k c.if-l-eq0.true c.requires.asks.0)));
@@ -16,13 +16,13 @@ pub returns-then-l-eq0 : goal.returns-then-l-eq0
 returns-then-l-eq0 g t c =
     record {
       got = (let d = g.S.PageStore.state c.args.s.now in
-          IfOk-weaker c.leaf-get.result _ _ (λ o h. (h.0 ∙ ap (λ es. find c.args.k es) (sym (leaf_pairs d.page c.args.l c.args.p c.if-l-eq0.true)), still_more 1 (c.args.l + 1) d _ (omega arith) h.1)) c.leaf-get.ensures.got);
+          IfOk-weaker c.leaf_get.result _ _ (λ o h. (h.0 ∙ ap (λ es. find c.args.k es) (sym (leaf_pairs d.page c.args.l c.args.p c.if-l-eq0.true)), still_more 1 (c.args.l + 1) d _ (omega arith) h.1)) c.leaf_get.ensures.got);
       onto = search rules;
       tied = search rules;
     }
 
-pub find-way-requires : goal.find-way-requires
-find-way-requires g t c =
+pub find_way-requires : goal.find_way-requires
+find_way-requires g t c =
     record {
       asks = (let d = g.S.PageStore.state c.args.s.now in
           let n : 0 < c.args.l = omega (arith, c.if-l-eq0.false) in
@@ -30,9 +30,9 @@ find-way-requires g t c =
       whole = search rules;
     }
 
-pub get-at-requires : goal.get-at-requires
-get-at-requires g t c κs within =
-    let d = g.S.PageStore.state c.args.s.now in let e = g.S.PageStore.state c.find-way.new.s in
+pub get_at-requires : goal.get_at-requires
+get_at-requires g t c κs within =
+    let d = g.S.PageStore.state c.args.s.now in let e = g.S.PageStore.state c.find_way.new.s in
     let n : 0 < c.args.l = omega (arith, c.if-l-eq0.false) in
     let w = c.in-ok-w.ensures.got in
     let b = below d e c.args.l (c.args.l - 1) c.args.p c.in-ok-w.w.down c.args.k c.in-ok-w.w.at (omega arith) w.3 c.requires.asks.0 c.requires.asks.1.0 w.0 w.1 in
@@ -41,11 +41,11 @@ get-at-requires g t c κs within =
 pub returns : goal.returns
 returns g t c =
     record {
-      got = (let d = g.S.PageStore.state c.args.s.now in let e = g.S.PageStore.state c.find-way.new.s in
+      got = (let d = g.S.PageStore.state c.args.s.now in let e = g.S.PageStore.state c.find_way.new.s in
           let n : 0 < c.args.l = omega (arith, c.if-l-eq0.false) in
           let w = c.in-ok-w.ensures.got in
           let b = below d e c.args.l (c.args.l - 1) c.args.p c.in-ok-w.w.down c.args.k c.in-ok-w.w.at (omega arith) w.3 c.requires.asks.0 c.requires.asks.1.0 w.0 w.1 in
-          IfOk-weaker c.get-at.result _ _ (λ o h. (h.0 ∙ sym b.finds, still_on 1 (c.args.l - 1 + 1) (c.args.l + 1) d e _ (omega arith) w.3 h.1)) c.get-at.ensures.got);
+          IfOk-weaker c.get_at.result _ _ (λ o h. (h.0 ∙ sym b.finds, still_on 1 (c.args.l - 1 + 1) (c.args.l + 1) d e _ (omega arith) w.3 h.1)) c.get_at.ensures.got);
       onto = search rules;
       tied = search rules;
     }

@@ -1,4 +1,4 @@
 use Rattle.tree.proofs.search.+get_at.Given as goal
 
-abbrev pub decreases-get-at : goal.decreases-get-at
-decreases-get-at g l = l.l
+abbrev pub decreases-get_at : goal.decreases-get_at
+decreases-get_at g l = l.l

@@ -5,8 +5,8 @@ use Rattle.tree.proofs.Down.{asks_leaf, asks_inner, mine_here, leaf_pairs, below
 use Rattle.std.proofs.lemmas.Result.{IfOk-weaker}
 use Rattle.tree.proofs.search.+next_at.Goals as goal
 
-pub leaf-next-requires : goal.leaf-next-requires
-leaf-next-requires g t c =
+pub leaf_next-requires : goal.leaf_next-requires
+leaf_next-requires g t c =
     record {
       asks = (let d = g.S.PageStore.state c.args.s.now in
           (omega (arith, c.requires.asks.1.1.0), (mine_here d c.args.l c.args.p c.requires.asks.1.0, asks_leaf d c.args.l c.args.p c.args.k c.if-l-eq0.true c.requires.asks.0)));
@@ -17,13 +17,13 @@ pub returns-then-l-eq0 : goal.returns-then-l-eq0
 returns-then-l-eq0 g t c =
     record {
       got = (let d = g.S.PageStore.state c.args.s.now in
-          IfOk-weaker c.leaf-next.result _ _ (λ o h. (h.0 ∙ ap (λ es. above c.args.k es) (sym (leaf_pairs d.page c.args.l c.args.p c.if-l-eq0.true)), still_more 1 (2 * c.args.l + 1) d _ (omega arith) h.1, (λ z. still_more 1 (c.args.l + 1) d _ (omega arith) h.1))) c.leaf-next.ensures.got);
+          IfOk-weaker c.leaf_next.result _ _ (λ o h. (h.0 ∙ ap (λ es. above c.args.k es) (sym (leaf_pairs d.page c.args.l c.args.p c.if-l-eq0.true)), still_more 1 (2 * c.args.l + 1) d _ (omega arith) h.1, (λ z. still_more 1 (c.args.l + 1) d _ (omega arith) h.1))) c.leaf_next.ensures.got);
       onto = search rules;
       tied = search rules;
     }
 
-pub find-way-requires : goal.find-way-requires
-find-way-requires g t c =
+pub find_way-requires : goal.find_way-requires
+find_way-requires g t c =
     record {
       asks = (let d = g.S.PageStore.state c.args.s.now in
           let n : 0 < c.args.l = omega (arith, c.if-l-eq0.false) in
@@ -31,9 +31,9 @@ find-way-requires g t c =
       whole = search rules;
     }
 
-pub next-at-requires : goal.next-at-requires
-next-at-requires g t c κs within =
-    let d = g.S.PageStore.state c.args.s.now in let e = g.S.PageStore.state c.find-way.new.s in
+pub next_at-requires : goal.next_at-requires
+next_at-requires g t c κs within =
+    let d = g.S.PageStore.state c.args.s.now in let e = g.S.PageStore.state c.find_way.new.s in
     let n : 0 < c.args.l = omega (arith, c.if-l-eq0.false) in
     let w = c.in-ok-w.ensures.got in
     let b = below d e c.args.l (c.args.l - 1) c.args.p c.in-ok-w.w.down c.args.k c.in-ok-w.w.at (omega arith) w.3 c.requires.asks.0 c.requires.asks.1.0 w.0 w.1 in
@@ -42,7 +42,7 @@ next-at-requires g t c κs within =
 pub returns-in-Some : goal.returns-in-Some
 returns-in-Some g t c =
     record {
-      got = (let d = g.S.PageStore.state c.args.s.now in let e = g.S.PageStore.state c.find-way.new.s in let f = g.S.PageStore.state c.next-at.new.s in
+      got = (let d = g.S.PageStore.state c.args.s.now in let e = g.S.PageStore.state c.find_way.new.s in let f = g.S.PageStore.state c.next_at.new.s in
           let n : 0 < c.args.l = omega (arith, c.if-l-eq0.false) in
           let w = c.in-ok-w.ensures.got in let r = c.in-ok-below.ensures.got in
           let b = beyond d e c.args.l (c.args.l - 1) c.args.p c.in-ok-w.w.down c.args.k c.in-ok-w.w.at (omega arith) w.3 c.requires.asks.0 c.requires.asks.1.0 w.0 w.1 in (
@@ -54,10 +54,10 @@ returns-in-Some g t c =
       tied = search rules;
     }
 
-pub first-at-requires : goal.first-at-requires
-first-at-requires g t c =
+pub first_at-requires : goal.first_at-requires
+first_at-requires g t c =
     record {
-      asks = (let d = g.S.PageStore.state c.args.s.now in let e = g.S.PageStore.state c.find-way.new.s in let f = g.S.PageStore.state c.next-at.new.s in
+      asks = (let d = g.S.PageStore.state c.args.s.now in let e = g.S.PageStore.state c.find_way.new.s in let f = g.S.PageStore.state c.next_at.new.s in
           let n : 0 < c.args.l = omega (arith, c.if-l-eq0.false) in
           let w = c.in-ok-w.ensures.got in let r = c.in-ok-below.ensures.got in
           let y : RightOf (pairs_of (d.page c.args.p)) c.in-ok-w.w.at (Some c.in-Some-right.q) = subst (λ o. RightOf (pairs_of (d.page c.args.p)) c.in-ok-w.w.at o) c.in-Some-right.is w.2 in
@@ -71,7 +71,7 @@ first-at-requires g t c =
 pub returns-in-Some-right : goal.returns-in-Some-right
 returns-in-Some-right g t c =
     record {
-      got = (let d = g.S.PageStore.state c.args.s.now in let e = g.S.PageStore.state c.find-way.new.s in let f = g.S.PageStore.state c.next-at.new.s in let h = g.S.PageStore.state c.first-at.new.s in
+      got = (let d = g.S.PageStore.state c.args.s.now in let e = g.S.PageStore.state c.find_way.new.s in let f = g.S.PageStore.state c.next_at.new.s in let h = g.S.PageStore.state c.first_at.new.s in
           let n : 0 < c.args.l = omega (arith, c.if-l-eq0.false) in
           let w = c.in-ok-w.ensures.got in let r = c.in-ok-below.ensures.got in
           let y : RightOf (pairs_of (d.page c.args.p)) c.in-ok-w.w.at (Some c.in-Some-right.q) = subst (λ o. RightOf (pairs_of (d.page c.args.p)) c.in-ok-w.w.at o) c.in-Some-right.is w.2 in
@@ -89,7 +89,7 @@ returns-in-Some-right g t c =
 pub returns : goal.returns
 returns g t c =
     record {
-      got = (let d = g.S.PageStore.state c.args.s.now in let e = g.S.PageStore.state c.find-way.new.s in let f = g.S.PageStore.state c.next-at.new.s in
+      got = (let d = g.S.PageStore.state c.args.s.now in let e = g.S.PageStore.state c.find_way.new.s in let f = g.S.PageStore.state c.next_at.new.s in
           let n : 0 < c.args.l = omega (arith, c.if-l-eq0.false) in
           let w = c.in-ok-w.ensures.got in let r = c.in-ok-below.ensures.got in
           let s = still_on 1 (c.args.l - 1 + 1) (c.args.l + 1) d e f (omega arith) w.3 (r.2 c.in-default.is) in

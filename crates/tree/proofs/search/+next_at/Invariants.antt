@@ -1,4 +1,4 @@
 use Rattle.tree.proofs.search.+next_at.Given as goal
 
-abbrev pub decreases-next-at : goal.decreases-next-at
-decreases-next-at g l = l.l
+abbrev pub decreases-next_at : goal.decreases-next_at
+decreases-next_at g l = l.l

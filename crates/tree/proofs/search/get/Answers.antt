@@ -17,8 +17,8 @@ pub overflow-sub-height : goal.overflow-sub-height
 overflow-sub-height g c =
     omega (arith, c.if-height-eq0.false)
 
-pub get-at-requires : goal.get-at-requires
-get-at-requires g c =
+pub get_at-requires : goal.get_at-requires
+get_at-requires g c =
     record {
       asks = (let d = g.S.PageStore.state c.args.s.now in
           let n : 0 < c.args.height = omega (arith, c.if-height-eq0.false) in
@@ -32,7 +32,7 @@ returns g c =
     record {
       got = (let d = g.S.PageStore.state c.args.s.now in
           let n : 0 < c.args.height = omega (arith, c.if-height-eq0.false) in
-          IfOk-weaker c.get-at.result _ _ (λ o h. (h.0 ∙ ap (λ es. find c.args.k es) (sym (tree_some d.page c.args.height (c.args.height - 1) c.args.root (omega arith))), still_more (c.args.height - 1 + 1) c.args.height d _ (omega arith) h.1)) c.get-at.ensures.got);
+          IfOk-weaker c.get_at.result _ _ (λ o h. (h.0 ∙ ap (λ es. find c.args.k es) (sym (tree_some d.page c.args.height (c.args.height - 1) c.args.root (omega arith))), still_more (c.args.height - 1 + 1) c.args.height d _ (omega arith) h.1)) c.get_at.ensures.got);
       onto = search rules;
       tied = search rules;
     }

@@ -13,8 +13,8 @@ returns-then-height-eq0 g c =
       tied = search rules;
     }
 
-pub next-at-requires : goal.next-at-requires
-next-at-requires g c =
+pub next_at-requires : goal.next_at-requires
+next_at-requires g c =
     record {
       asks = (let d = g.S.PageStore.state c.args.s.now in
           let n : 0 < c.args.height = omega (arith, c.if-height-eq0.false) in
@@ -28,7 +28,7 @@ returns g c =
     record {
       got = (let d = g.S.PageStore.state c.args.s.now in
           let n : 0 < c.args.height = omega (arith, c.if-height-eq0.false) in
-          IfOk-weaker c.next-at.result _ _ (λ o h. (h.0 ∙ ap (λ es. above c.args.k es) (sym (tree_some d.page c.args.height (c.args.height - 1) c.args.root (omega arith))), still_more (2 * (c.args.height - 1) + 1) (2 * c.args.height - 1) d _ (omega arith) h.1)) c.next-at.ensures.got);
+          IfOk-weaker c.next_at.result _ _ (λ o h. (h.0 ∙ ap (λ es. above c.args.k es) (sym (tree_some d.page c.args.height (c.args.height - 1) c.args.root (omega arith))), still_more (2 * (c.args.height - 1) + 1) (2 * c.args.height - 1) d _ (omega arith) h.1)) c.next_at.ensures.got);
       onto = search rules;
       tied = search rules;
     }

@@ -7,36 +7,36 @@ use Rattle.view.specs.Upkeep.{SuccOk}
 use Rattle.view.specs.Writes.{with_lines}
 use Rattle.view.proofs.Filed.{Filing, length_own, filing_other, filing_write, filing_fits, filing_all, filing_count, lines_filed, succs_filed}
 use Rattle.view.proofs.commit.take_in.Goals as goal
-use Rattle.view.proofs.commit.take_in.Goals.{then-is-write, else-is-write}
+use Rattle.view.proofs.commit.take_in.Goals.{then-is_write, else-is_write}
 
 carry : (w : List ℕ) (v : _) (i : ℕ) (a b : List ℕ) (r s : Ring) → a ≡ b → r ≡ s → Filing w v i b s → Filing w v i a r
 carry w v i a b r s e f h = subst (λ (x : List ℕ). Filing w v i x r) (sym e) (subst (λ (y : Ring). Filing w v i b y) (sym f) h)
 
-pub add-record-queue-requires : goal.add-record-queue-requires
-add-record-queue-requires c =
+pub add_record-queue-requires : goal.add_record-queue-requires
+add_record-queue-requires c =
     let w = c.args.room.now in
     let v = c.args.view in
     let n = length_own w v in
     let low : c.loop-i.i < length (own_of w v) = omega arith in
-    let e : is_write c.line-of-line.result ≡ true = sym c.if-is-write.ensures in
-    (c.loop-i.invariant.queue, filing_fits w v c.loop-i.i c.loop-i.room c.loop-i.queue c.requires.stands.own.deal low c.loop-i.invariant c.line-of-line.result c.line-of-line.ensures e c.requires.fits)
+    let e : is_write c.line_of-line.result ≡ true = sym c.if-is_write.ensures in
+    (c.loop-i.invariant.queue, filing_fits w v c.loop-i.i c.loop-i.room c.loop-i.queue c.requires.stands.own.deal low c.loop-i.invariant c.line_of-line.result c.line_of-line.ensures e c.requires.fits)
 
 pub loop-i-preserved : goal.loop-i-preserved
 loop-i-preserved c =
     let w = c.args.room.now in
     let v = c.args.view in
     let i = c.loop-i.i in
-    let l = c.line-of-line.result in
+    let l = c.line_of-line.result in
     let n = length_own w v in
     let low : i < length (own_of w v) = omega arith in
-    elim c.if-is-write.branch [
-      | then-is-write x ↦
-          carry w v (i + 1) c.if-is-write.room x.add-record-queue.new.room c.if-is-write.queue x.add-record-queue.result x.room-is x.queue-is
-          (filing_write w v i c.loop-i.room c.loop-i.queue c.requires.stands.own.deal low c.loop-i.invariant l c.line-of-line.ensures (sym x.if-is-write.ensures)
-          x.add-record-queue.new.room x.add-record-queue.result x.add-record-queue.ensures.lines x.add-record-queue.ensures.queue.0 x.add-record-queue.ensures.queue.1.0 x.add-record-queue.ensures.only)
-      | else-is-write x ↦
-          carry w v (i + 1) c.if-is-write.room c.loop-i.room c.if-is-write.queue c.loop-i.queue x.room-is x.queue-is
-          (filing_other w v i c.loop-i.room c.loop-i.queue c.requires.stands.own.deal low c.loop-i.invariant l c.line-of-line.ensures (sym x.if-is-write.ensures))
+    elim c.if-is_write.branch [
+      | then-is_write x ↦
+          carry w v (i + 1) c.if-is_write.room x.add_record-queue.new.room c.if-is_write.queue x.add_record-queue.result x.room-is x.queue-is
+          (filing_write w v i c.loop-i.room c.loop-i.queue c.requires.stands.own.deal low c.loop-i.invariant l c.line_of-line.ensures (sym x.if-is_write.ensures)
+          x.add_record-queue.new.room x.add_record-queue.result x.add_record-queue.ensures.lines x.add_record-queue.ensures.queue.0 x.add_record-queue.ensures.queue.1.0 x.add_record-queue.ensures.only)
+      | else-is_write x ↦
+          carry w v (i + 1) c.if-is_write.room c.loop-i.room c.if-is_write.queue c.loop-i.queue x.room-is x.queue-is
+          (filing_other w v i c.loop-i.room c.loop-i.queue c.requires.stands.own.deal low c.loop-i.invariant l c.line_of-line.ensures (sym x.if-is_write.ensures))
     ]
 
 pub returns : goal.returns

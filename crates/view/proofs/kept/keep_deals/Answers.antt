@@ -7,7 +7,7 @@ pub loop-c-preserved : goal.loop-c-preserved
 loop-c-preserved c =
     let i = c.loop-c.c in
     let v = c.loop-c.invariant in
-    let e = c.keep-deal.ensures in
+    let e = c.keep_deal.ensures in
     let low : i < 32 = omega arith in (
       (λ d h. elim (cases_eq d i) [
         | inl z ↦ rw z (e.lines ∙ ap (map (kept_by c.args.change)) (v.1 i low (omega arith)))

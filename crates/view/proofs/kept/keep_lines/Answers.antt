@@ -13,12 +13,12 @@ loop-i-preserved c =
     let f = kept_by c.args.change in
     let xs = lines_of c.args.words.now c.args.ring in
     let ys = lines_of c.loop-i.words c.args.ring in
-    let x = c.line-at-line.result in
+    let x = c.line_at-line.result in
     let i = c.loop-i.i in
     let n = length_lines c.args.words.now c.args.ring in
     let m = length_lines c.loop-i.words c.args.ring in
-    let is : x ≡ get_or ys i x = c.line-at-line.ensures ∙ get_or_default ys i Idle x (omega arith) in
-    c.set-line.ensures ∙ (ap (λ (l : Line). set ys i l) c.kept-line.ensures ∙ map_over_more f xs ys i x (omega arith) c.loop-i.invariant is)
+    let is : x ≡ get_or ys i x = c.line_at-line.ensures ∙ get_or_default ys i Idle x (omega arith) in
+    c.set_line.ensures ∙ (ap (λ (l : Line). set ys i l) c.kept_line.ensures ∙ map_over_more f xs ys i x (omega arith) c.loop-i.invariant is)
 
 pub returns : goal.returns
 returns c =

@@ -7,4 +7,4 @@ pub returns : goal.returns
 unfolding next_key
 returns g c =
     let e = c.in-ok-pair.ensures in
-    record { told = ap (Cleared c.args.k) (c.key-of.ensures ∙ ap key_of e.told); same = e.same; asked = e.asked; tables = c.next.ensures.tables; onto = search rules; tied = c.next.ensures.tied }
+    record { told = ap (Cleared c.args.k) (c.key_of.ensures ∙ ap key_of e.told); same = e.same; asked = e.asked; tables = c.next.ensures.tables; onto = search rules; tied = c.next.ensures.tied }

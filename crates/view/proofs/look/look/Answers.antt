@@ -16,7 +16,7 @@ returns-in-Some g c =
     let q = queue_of w c.args.view in
     let o = own_of w c.args.view in
     let b = g.D.Index.budget c.args.index.now in
-    let e = found_settled t q o c.args.k c.in-room.result c.in-room.ensures c.in-Some.found c.in-Some.ensures in
+    let e = found_settled t q o c.args.k c.in_room.result c.in_room.ensures c.in-Some.found c.in-Some.ensures in
     record { found = e; told = e ∙ viewed_found t q o c.args.k c.requires.up; same = refl; asked = spent_none b.get b; tables = refl; onto = λ a u h. h; tied = refl }
 
 pub returns-in-None : goal.returns-in-None
@@ -26,7 +26,7 @@ returns-in-None g c =
     let q = queue_of w c.args.view in
     let o = own_of w c.args.view in
     let k = c.args.k in
-    let e = found_asked t q o k c.in-room.result c.in-room.ensures c.in-None.ensures in
+    let e = found_asked t q o k c.in_room.result c.in_room.ensures c.in-None.ensures in
     let P : Option ℕ → Type 0 = λ a. a ≡ find k t in
     record {
       found = IfOk-weaker c.get.result P (λ a. a ≡ viewed t q o k) (λ a h. h ∙ e) c.get.ensures.told;

@@ -28,10 +28,10 @@ returns g c =
     let x = c.args.view in
     let t = g.D.Index.pairs c.args.index.now (behind w) in
     let e = c.in-ok-pair.ensures in
-    let first : c.key-of.result ≡ next_key c.args.k t = c.key-of.ensures ∙ ap key_of e.told in
-    let on = by_lines w v x c.next.auto.room c.next.ensures.tables c.requires.stands (λ q o. Onward q o c.args.k c.key-of.result c.onward.result) c.onward.ensures in
+    let first : c.key_of.result ≡ next_key c.args.k t = c.key_of.ensures ∙ ap key_of e.told in
+    let on = by_lines w v x c.next.auto.room c.next.ensures.tables c.requires.stands (λ q o. Onward q o c.args.k c.key_of.result c.onward.result) c.onward.ensures in
     record {
-      told = onward_key t (queue_of w x) (own_of w x) c.args.k c.key-of.result c.onward.result c.requires.up c.requires.succs.0 c.requires.succs.1 first on;
+      told = onward_key t (queue_of w x) (own_of w x) c.args.k c.key_of.result c.onward.result c.requires.up c.requires.succs.0 c.requires.succs.1 first on;
       same = e.same;
       asked = e.asked;
       tables = c.next.ensures.tables;

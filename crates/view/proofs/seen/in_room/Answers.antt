@@ -16,29 +16,29 @@ own_says w c n a k j r s z part e h =
     ∙ (ap (λ x. seen_in j (lines_of (take k (drop (3072 * c) w)) x) Unknown) e
     ∙ ap (λ x. seen_in j x Unknown) (deal_part w c k part n)))
 
-pub returns-then-is-silent : goal.returns-then-is-silent
+pub returns-then-is_silent : goal.returns-then-is_silent
 unfolding queue_lines
-returns-then-is-silent c =
+returns-then-is_silent c =
     let w = c.args.room.now in
     let v = c.args.view in
     let a = 3072 * v.deal in
     let k = a + 3072 - a in
     let j = c.args.key in
     let q = queue_lines w v.queue in
-    let s = c.last-of-own.result in
+    let s = c.last_of-own.result in
     let d = seen_in j q Unknown in
-    let own = own_says w v.deal v.count a k j c.deal-ring.result s refl (omega arith) c.deal-ring.ensures c.last-of-own.ensures in
-    c.last-of.ensures ∙ (sym (over_silent s d (sym c.if-is-silent.ensures)) ∙ (ap (λ (x : Seen). over x d) own ∙ sym (says_over q (deal_lines w v.deal v.count) j)))
+    let own = own_says w v.deal v.count a k j c.deal_ring.result s refl (omega arith) c.deal_ring.ensures c.last_of-own.ensures in
+    c.last_of.ensures ∙ (sym (over_silent s d (sym c.if-is_silent.ensures)) ∙ (ap (λ (x : Seen). over x d) own ∙ sym (says_over q (deal_lines w v.deal v.count) j)))
 
-pub returns-else-is-silent : goal.returns-else-is-silent
-returns-else-is-silent c =
+pub returns-else-is_silent : goal.returns-else-is_silent
+returns-else-is_silent c =
     let w = c.args.room.now in
     let v = c.args.view in
     let a = 3072 * v.deal in
     let k = a + 3072 - a in
     let j = c.args.key in
     let q = queue_lines w v.queue in
-    let s = c.last-of-own.result in
+    let s = c.last_of-own.result in
     let d = seen_in j q Unknown in
-    let own = own_says w v.deal v.count a k j c.deal-ring.result s refl (omega arith) c.deal-ring.ensures c.last-of-own.ensures in
-    sym (over_said s d (sym c.if-is-silent.ensures)) ∙ (ap (λ (x : Seen). over x d) own ∙ sym (says_over q (deal_lines w v.deal v.count) j))
+    let own = own_says w v.deal v.count a k j c.deal_ring.result s refl (omega arith) c.deal_ring.ensures c.last_of-own.ensures in
+    sym (over_said s d (sym c.if-is_silent.ensures)) ∙ (ap (λ (x : Seen). over x d) own ∙ sym (says_over q (deal_lines w v.deal v.count) j))

@@ -18,7 +18,7 @@ loop-i-preserved c =
     let i = c.loop-i.i in
     let b = c.loop-i.least in
     let e : least_in f k (drop i ls) b ≡ least_in f k (drop (i + 1) ls) (least_line f k (get_or ls i Idle) b) = at_drop_more (λ (x : List Line). least_in f k x b) ls i Idle (omega arith) in
-    ap (λ (x : Option ℕ). least_in f k (drop (i + 1) ls) x) (c.least-of-least.ensures ∙ ap (λ (l : Line). least_line f k l b) c.line-at.ensures) ∙ (sym e ∙ c.loop-i.invariant)
+    ap (λ (x : Option ℕ). least_in f k (drop (i + 1) ls) x) (c.least_of-least.ensures ∙ ap (λ (l : Line). least_line f k l b) c.line_at.ensures) ∙ (sym e ∙ c.loop-i.invariant)
 
 pub returns : goal.returns
 returns c =

@@ -25,8 +25,8 @@ returns c =
     record {
       over = c.walk-standing.result;
       walked = c.walk-standing.ensures;
-      least = c.least-put.ensures
-          ∙ (ap (λ (x : Option ℕ). least_in f k (lines_of (take n (drop a w)) c.deal-ring.result) x) c.least-put-queued.ensures
-          ∙ (ap (λ (r : Ring). least_in f k (lines_of (take n (drop a w)) r) b) c.deal-ring.ensures
+      least = c.least_put.ensures
+          ∙ (ap (λ (x : Option ℕ). least_in f k (lines_of (take n (drop a w)) c.deal_ring.result) x) c.least_put-queued.ensures
+          ∙ (ap (λ (r : Ring). least_in f k (lines_of (take n (drop a w)) r) b) c.deal_ring.ensures
           ∙ ap (λ (x : List Line). least_in f k x b) (deal_part w v.deal n part v.count)));
     }

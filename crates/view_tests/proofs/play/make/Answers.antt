@@ -3,8 +3,8 @@ use Rattle.view.specs.declared.seen.View.{View}
 use Rattle.view_tests.proofs.Sanely.{own_fits, sane_made}
 use Rattle.view_tests.proofs.play.make.Goals as goal
 
-pub take-in-longer-requires : goal.take-in-longer-requires
-take-in-longer-requires c =
+pub take_in-longer-requires : goal.take_in-longer-requires
+take_in-longer-requires c =
     let n = get_or c.args.counts.now c.args.deal 0 in
     let v : View = record { deal = c.args.deal; count = n; queue = c.args.queue } in
     record {
@@ -14,5 +14,5 @@ take-in-longer-requires c =
 
 pub returns : goal.returns
 returns c =
-    let e = c.take-in-longer.ensures in
-    λ t s. sane_made t c.args.room.now c.take-in-longer.new.room c.args.counts.now c.args.queue c.take-in-longer.result c.args.deal c.requires.1.1 e.queue.0 e.only (e.succs t) s
+    let e = c.take_in-longer.ensures in
+    λ t s. sane_made t c.args.room.now c.take_in-longer.new.room c.args.counts.now c.args.queue c.take_in-longer.result c.args.deal c.requires.1.1 e.queue.0 e.only (e.succs t) s

@@ -10,7 +10,7 @@ unfolding Chosen
 returns-then-counts c =
     let w = waits_in c.args.self.now in
     let i = c.loop-i.i in
-    record { among = c.loop-i-test.true; there = refl; few = c.requires i c.loop-i-test.true; clash = ap not c.is-free.ensures ∙ not_not (some_of 32 (w (get_or c.args.order.now i 0))); counts = sym c.if-counts.ensures; before = c.loop-i.invariant }
+    record { among = c.loop-i-test.true; there = refl; few = c.requires i c.loop-i-test.true; clash = ap not c.is_free.ensures ∙ not_not (some_of 32 (w (get_or c.args.order.now i 0))); counts = sym c.if-counts.ensures; before = c.loop-i.invariant }
 
 pub loop-i-preserved : goal.loop-i-preserved
 loop-i-preserved c =

@@ -15,6 +15,6 @@ loop-d-preserved c e =
     let s = is_in c.args.set in
     let d = c.loop-d.d in
     elim c.if-contains.branch [
-      | then-contains v ↦ ap (λ (x : ClerkSet). is_in x e) v.all-is ∙ v.joined-all.ensures e ∙ ap (λ x. is_in c.loop-d.all e || x) (v.waits-of.ensures e) ∙ spread_in w s d e (is_in c.loop-d.all e) (c.loop-d.invariant e) (sym v.if-contains.ensures)
+      | then-contains v ↦ ap (λ (x : ClerkSet). is_in x e) v.all-is ∙ v.joined-all.ensures e ∙ ap (λ x. is_in c.loop-d.all e || x) (v.waits_of.ensures e) ∙ spread_in w s d e (is_in c.loop-d.all e) (c.loop-d.invariant e) (sym v.if-contains.ensures)
       | else-contains v ↦ ap (λ (x : ClerkSet). is_in x e) v.all-is ∙ spread_out w s d e (is_in c.loop-d.all e) (c.loop-d.invariant e) (sym v.if-contains.ensures)
     ]

@@ -6,10 +6,10 @@ use Rattle.view_tests.proofs.pairs.PairListIndex.remove.Goals as goal
 
 pub returns-then-i-len : goal.returns-then-i-len
 returns-then-i-len c =
-    let e = c.place-of-i.ensures in
-    let i = c.place-of-i.result in
-    let s = c.as-slice.result.now in
-    let v = c.as-slice.ensures.value in
+    let e = c.place_of-i.ensures in
+    let i = c.place_of-i.result in
+    let s = c.as_slice.result.now in
+    let v = c.as_slice.ensures.value in
     record {
       done = c.remove.ensures.items ∙ (ap (λ (x : List (ℕ × ℕ)). remove x i) (sym v) ∙ (sym (drop_at_lem c.args.k i s e.before (omega arith) (e.here (omega arith))) ∙ ap (drop_in c.args.k) v));
       asked = search rules;
@@ -20,9 +20,9 @@ returns-then-i-len c =
 
 pub returns-else-i-len : goal.returns-else-i-len
 returns-else-i-len c =
-    let e = c.place-of-i.ensures in
-    let s = c.as-slice.result.now in
-    let v = c.as-slice.ensures.value in
+    let e = c.place_of-i.ensures in
+    let s = c.as_slice.result.now in
+    let v = c.as_slice.ensures.value in
     record {
       done = sym v ∙ (sym (drop_no c.args.k s (λ j h. e.before j (omega arith))) ∙ ap (drop_in c.args.k) v);
       asked = search rules;
