@@ -67,11 +67,11 @@ pub trait Pages {
 // What the office doesn't see.
 pub trait Power: Pages {
     fn allow(&mut self, asks: u64)
-        ensures { disk self.new ≡ allowed asks (disk self.old) };
+        ensures { Self.disk self.new ≡ allowed asks (Self.disk self.old) };
     // It comes back; nothing is known of what memory holds.
     fn back(&mut self, room: &mut [u64])
-        requires { (disk self.old).on ≡ false }
-        ensures { Back (disk self.old) (disk self.new) };
+        requires { (Self.disk self.old).on ≡ false }
+        ensures { Back (Self.disk self.old) (Self.disk self.new) };
 }
 
 // Clerks, 0 to 31. What they are told they may be told: that is the promise.

@@ -17,10 +17,10 @@ pub struct Office {
 
 // Nobody has asked yet, and the disk isn't needed.
 pub fn open<D: Pages>(d: &mut D, room: &mut [u64]) -> Result<Office, Gone>
-    requires soon { 4194304 ≤ (disk d.old).left }
-    ensures only { is_ok result ≡ false → (disk d.new).on ≡ false }
+    requires soon { 4194304 ≤ (D.disk d.old).left }
+    ensures only { is_ok result ≡ false → (D.disk d.new).on ≡ false }
     ensures idle { result ≡ Ok (record { waiting = 0 }) }
-    ensures disk { disk d.new ≡ disk d.old }
+    ensures disk { D.disk d.new ≡ D.disk d.old }
     ensures room { room.new ≡ room.old }
 {
     Ok(Office { waiting: 0 })
@@ -44,11 +44,11 @@ impl Office {
         d: &mut D,
         room: &mut [u64],
     ) -> Result<Option<(u32, Answer)>, Gone>
-        requires soon { 512 ≤ (disk d.old).left }
-        ensures only { is_ok result ≡ false → (disk d.new).on ≡ false }
+        requires soon { 512 ≤ (D.disk d.old).left }
+        ensures only { is_ok result ≡ false → (D.disk d.new).on ≡ false }
         ensures told { result ≡ Ok (first_told self.old.waiting) }
         ensures rest { self.new.waiting ≡ others self.old.waiting }
-        ensures disk { disk d.new ≡ disk d.old }
+        ensures disk { D.disk d.new ≡ D.disk d.old }
         ensures room { room.new ≡ room.old }
     {
         let waiting = self.waiting;

@@ -3,7 +3,7 @@ use lines::ring::Ring;
 use store::Store;
 
 // What is noted beside the room: the store, and the queue's place in the room.
-#[derive(Clone, Copy)]
+#[derive(Drop)]
 pub struct Ledger {
     pub store: Store,
     pub queue: Ring,

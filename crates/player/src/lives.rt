@@ -27,7 +27,7 @@ pub struct Life {
 }
 
 fn open_office<D: Pages + Power>(d: &mut D, room: &mut [u64]) -> Result<Office, Gone>
-    ensures { is_ok result ≡ false → (disk d.new).on ≡ false }
+    ensures { is_ok result ≡ false → (D.disk d.new).on ≡ false }
 {
     d.allow(ASKS_TO_OPEN);
     open(d, room)
@@ -92,7 +92,7 @@ impl Life {
         requires { self.old.turns < 16777215 }
         ensures number { self.new.number ≡ self.old.number }
         ensures turns { self.new.turns ≡ self.old.turns + 1 }
-        ensures gone { is_ok result ≡ false → (disk d.new).on ≡ false }
+        ensures gone { is_ok result ≡ false → (D.disk d.new).on ≡ false }
     {
         self.turns += 1;
         d.allow(ASKS_IN_A_TURN);

@@ -77,7 +77,7 @@ impl Player {
         ensures turns { self.new.life.turns ≡ self.old.life.turns + 1 }
         ensures number { self.new.life.number ≡ self.old.life.number }
         ensures over { self.new.over ≡ self.old.over }
-        ensures gone { result ≡ Turned.Gone → (disk d.new).on ≡ false }
+        ensures gone { result ≡ Turned.Gone → (D.disk d.new).on ≡ false }
     {
         match self.life.turn(d, room) {
             Ok(Some((who, answer))) => {
@@ -90,7 +90,7 @@ impl Player {
     }
     // The power has gone: it comes back, and the office opens again with nobody's deal.
     fn restart<D: Pages + Power, S: Sink>(&mut self, d: &mut D, room: &mut [u64], out: &mut S)
-        requires { (disk d.old).on ≡ false }
+        requires { (D.disk d.old).on ≡ false }
         ensures seats { self.new.seats.list ≡ nobody }
         ensures later { self.new.over ≡ false → (self.old.life.number < self.new.life.number) × (self.new.life.turns ≡ 0) }
     {
@@ -145,7 +145,7 @@ impl Player {
         out: &mut S,
     ) -> bool
         requires { who < 32 }
-        ensures busy { is_asked (slice_index_or self.old.seats.list who Seat.Free) ≡ true → said out.old (Busy who) out.new × (self.new ≡ self.old) × (result ≡ true) }
+        ensures busy { is_asked (slice_index_or self.old.seats.list who Seat.Free) ≡ true → S.said out.old (Busy who) out.new × (self.new ≡ self.old) × (result ≡ true) }
         ensures played { is_asked (slice_index_or self.old.seats.list who Seat.Free) ≡ false → result ≡ nat_le (self.old.life.turns + 64) 16777215 }
         ensures refused { result ≡ false → (self.new ≡ self.old) × (out.new ≡ out.old) }
     {
@@ -327,7 +327,7 @@ impl Player {
         room: &mut [u64],
         out: &mut S,
     )
-        ensures bad { ((c : Asks) → Fits c → line.now ≢ text_of c) → said out.old (BadLine number) out.new × (self.new ≡ self.old) }
+        ensures bad { ((c : Asks) → Fits c → line.now ≢ text_of c) → S.said out.old (BadLine number) out.new × (self.new ≡ self.old) }
     {
         if let Some(command) = parse(line) {
             if self.play(command, d, room, out) {

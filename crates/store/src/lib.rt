@@ -73,13 +73,13 @@ impl Lasted {
 
 // The next head's own records become a page of the ring that no lasting head names.
 fn spill<D: Device>(d: &mut D, part: &mut [u64], store: &mut Store) -> Result<(), Gone>
-    requires ready { Ready (medium d.old) (next part.old) store.old.fresh }
+    requires ready { Ready (D.medium d.old) (next part.old) store.old.fresh }
     requires long { length part.old ≡ 62976 }
     requires brim { length (next part.old).own ≡ 128 }
     requires room { (next part.old).full < 263 }
-    requires asks { 0 < (medium d.old).left }
-    ensures spills { Spills (medium d.old) part.old store.old (is_ok result) (medium d.new) part.new store.new }
-    ensures tied { tie d.new ≡ tie d.old }
+    requires asks { 0 < (D.medium d.old).left }
+    ensures spills { Spills (D.medium d.old) part.old store.old (is_ok result) (D.medium d.new) part.new store.new }
+    ensures tied { D.tie d.new ≡ D.tie d.old }
 {
     let p = head::ring_end(&part[NEXT..NEXT + PAGE]);
     d.write(p, &part[NEXT..NEXT + PAGE])?;
@@ -90,12 +90,12 @@ fn spill<D: Device>(d: &mut D, part: &mut [u64], store: &mut Store) -> Result<()
 
 // The next head has room for a record more.
 fn make_room<D: Device>(d: &mut D, part: &mut [u64], store: &mut Store) -> Result<(), Gone>
-    requires ready { Ready (medium d.old) (next part.old) store.old.fresh }
+    requires ready { Ready (D.medium d.old) (next part.old) store.old.fresh }
     requires long { length part.old ≡ 62976 }
-    requires room { length (queue_by (next part.old) (medium d.old).shown) < 32768 }
-    requires asks { 0 < (medium d.old).left }
-    ensures spills { Spills (medium d.old) part.old store.old (is_ok result) (medium d.new) part.new store.new }
-    ensures tied { tie d.new ≡ tie d.old }
+    requires room { length (queue_by (next part.old) (D.medium d.old).shown) < 32768 }
+    requires asks { 0 < (D.medium d.old).left }
+    ensures spills { Spills (D.medium d.old) part.old store.old (is_ok result) (D.medium d.new) part.new store.new }
+    ensures tied { D.tie d.new ≡ D.tie d.old }
 {
     if head::own(&part[NEXT..NEXT + PAGE]) < head::PER_PAGE {
         return Ok(());
@@ -110,11 +110,11 @@ pub fn append<D: Device>(
     store: &mut Store,
     item: Record,
 ) -> Result<(), Gone>
-    requires intact { Intact (medium d.old) part.old store.old }
-    requires room { length (queue_by (next part.old) (medium d.old).shown) < 32768 }
-    requires asks { 0 < (medium d.old).left }
-    ensures appends { Appends (medium d.old) part.old store.old item (is_ok result) (medium d.new) part.new store.new }
-    ensures tied { tie d.new ≡ tie d.old }
+    requires intact { Intact (D.medium d.old) part.old store.old }
+    requires room { length (queue_by (next part.old) (D.medium d.old).shown) < 32768 }
+    requires asks { 0 < (D.medium d.old).left }
+    ensures appends { Appends (D.medium d.old) part.old store.old item (is_ok result) (D.medium d.new) part.new store.new }
+    ensures tied { D.tie d.new ≡ D.tie d.old }
 {
     make_room(d, part, store)?;
     head::join(&mut part[NEXT..NEXT + PAGE], item);
@@ -130,9 +130,9 @@ fn must_sync(store: &Store, images: bool) -> bool
 
 // What the next head counts on lasts; with `images`, those too.
 fn make_last<D: Device>(d: &mut D, store: &mut Store, images: bool) -> Result<(), Gone>
-    requires asks { 0 < (medium d.old).left }
-    ensures settles { (g : Head) → Ready (medium d.old) g store.old.fresh → Settles (medium d.old) g store.old images (is_ok result) (medium d.new) store.new }
-    ensures tied { tie d.new ≡ tie d.old }
+    requires asks { 0 < (D.medium d.old).left }
+    ensures settles { (g : Head) → Ready (D.medium d.old) g store.old.fresh → Settles (D.medium d.old) g store.old images (is_ok result) (D.medium d.new) store.new }
+    ensures tied { D.tie d.new ≡ D.tie d.old }
 {
     if !must_sync(store, images) {
         return Ok(());
@@ -145,13 +145,13 @@ fn make_last<D: Device>(d: &mut D, store: &mut Store, images: bool) -> Result<()
 
 // The moment: from here on the disk means what this head says.
 fn write_head<D: Device>(d: &mut D, head: &[u64]) -> Result<(), Gone>
-    requires kept { Kept (medium d.old) }
-    requires sound { Sound (medium d.old).pages (head_of head.now) }
-    requires firm { Firm (medium d.old) (head_of head.now) }
+    requires kept { Kept (D.medium d.old) }
+    requires sound { Sound (D.medium d.old).pages (head_of head.now) }
+    requires firm { Firm (D.medium d.old) (head_of head.now) }
     requires long { length head.now ≡ 512 }
-    requires asks { 2 ≤ (medium d.old).left }
-    ensures moves { Moves (medium d.old) head.now (is_ok result) (medium d.new) }
-    ensures tied { tie d.new ≡ tie d.old }
+    requires asks { 2 ≤ (D.medium d.old).left }
+    ensures moves { Moves (D.medium d.old) head.now (is_ok result) (D.medium d.new) }
+    ensures tied { D.tie d.new ≡ D.tie d.old }
 {
     d.write(0, head)?;
     d.sync()
@@ -159,10 +159,10 @@ fn write_head<D: Device>(d: &mut D, head: &[u64]) -> Result<(), Gone>
 
 // The appended records last.
 pub fn seal<D: Device>(d: &mut D, part: &[u64], store: &mut Store) -> Result<Lasted, Gone>
-    requires intact { Intact (medium d.old) part.now store.old }
-    requires asks { 3 ≤ (medium d.old).left }
-    ensures seals { Seals (medium d.old) part.now store.old (is_ok result) (medium d.new) store.new }
-    ensures tied { tie d.new ≡ tie d.old }
+    requires intact { Intact (D.medium d.old) part.now store.old }
+    requires asks { 3 ≤ (D.medium d.old).left }
+    ensures seals { Seals (D.medium d.old) part.now store.old (is_ok result) (D.medium d.new) store.new }
+    ensures tied { D.tie d.new ≡ D.tie d.old }
 {
     make_last(d, store, false)?;
     write_head(d, &part[NEXT..NEXT + PAGE])?;
@@ -172,34 +172,34 @@ pub fn seal<D: Device>(d: &mut D, part: &[u64], store: &mut Store) -> Result<Las
 
 // A page into the scratch.
 fn load_scratch<D: Device>(d: &mut D, p: u64, part: &mut [u64]) -> Result<(), Gone>
-    requires ask { MayAsk (medium d.old) p }
+    requires ask { MayAsk (D.medium d.old) p }
     requires long { length part.old ≡ 62976 }
-    ensures reads { Reads (medium d.old) p (scratch_of part.new) (is_ok result) (medium d.new) }
+    ensures reads { Reads (D.medium d.old) p (scratch_of part.new) (is_ok result) (D.medium d.new) }
     ensures head { next_of part.new ≡ next_of part.old }
     ensures frames { frames_of part.new ≡ frames_of part.old }
-    ensures tied { tie d.new ≡ tie d.old }
+    ensures tied { D.tie d.new ≡ D.tie d.old }
 {
     d.read(p, &mut part[SCRATCH..SCRATCH + PAGE])
 }
 
 // The head into the part.
 fn load_head<D: Device>(d: &mut D, part: &mut [u64]) -> Result<(), Gone>
-    requires ask { MayAsk (medium d.old) 0 }
+    requires ask { MayAsk (D.medium d.old) 0 }
     requires long { length part.old ≡ 62976 }
-    ensures reads { Reads (medium d.old) 0 (next_of part.new) (is_ok result) (medium d.new) }
-    ensures tied { tie d.new ≡ tie d.old }
+    ensures reads { Reads (D.medium d.old) 0 (next_of part.new) (is_ok result) (D.medium d.new) }
+    ensures tied { D.tie d.new ≡ D.tie d.old }
 {
     d.read(0, &mut part[NEXT..NEXT + PAGE])
 }
 
 // One page to another, by way of the scratch.
 fn copy_page<D: Device>(d: &mut D, from: u64, to: u64, part: &mut [u64]) -> Result<(), Gone>
-    requires asks { 2 ≤ (medium d.old).left }
-    requires near { (from < (medium d.old).pages) × (to < (medium d.old).pages) }
+    requires asks { 2 ≤ (D.medium d.old).left }
+    requires near { (from < (D.medium d.old).pages) × (to < (D.medium d.old).pages) }
     requires long { length part.old ≡ 62976 }
-    ensures wrote { Wrote 2 (medium d.old) to ((medium d.old).shown from) (is_ok result) (medium d.new) }
+    ensures wrote { Wrote 2 (D.medium d.old) to ((D.medium d.old).shown from) (is_ok result) (D.medium d.new) }
     ensures head { next_of part.new ≡ next_of part.old }
-    ensures tied { tie d.new ≡ tie d.old }
+    ensures tied { D.tie d.new ≡ D.tie d.old }
 {
     load_scratch(d, from, part)?;
     d.write(to, &part[SCRATCH..SCRATCH + PAGE])
@@ -207,13 +207,13 @@ fn copy_page<D: Device>(d: &mut D, from: u64, to: u64, part: &mut [u64]) -> Resu
 
 // The last batch of the head is put where it belongs, whatever was done of it before.
 fn redo<D: Device>(d: &mut D, part: &mut [u64]) -> Result<(), Gone>
-    requires rested { Rested (medium d.old) }
-    requires asks { 128 ≤ (medium d.old).left }
+    requires rested { Rested (D.medium d.old) }
+    requires asks { 128 ≤ (D.medium d.old).left }
     requires long { length part.old ≡ 62976 }
-    requires head { next_of part.old ≡ (medium d.old).shown 0 }
-    ensures row { WroteAll 128 (length (next part.old).targets) (target (next part.old)) (λ j. (medium d.old).shown (slot (next part.old) j)) (medium d.old) (is_ok result) (medium d.new) }
+    requires head { next_of part.old ≡ (D.medium d.old).shown 0 }
+    ensures row { WroteAll 128 (length (next part.old).targets) (target (next part.old)) (λ j. (D.medium d.old).shown (slot (next part.old) j)) (D.medium d.old) (is_ok result) (D.medium d.new) }
     ensures head { next_of part.new ≡ next_of part.old }
-    ensures tied { tie d.new ≡ tie d.old }
+    ensures tied { D.tie d.new ≡ D.tie d.old }
 {
     let n = head::batch_len(&part[NEXT..NEXT + PAGE]);
     for k in 0..n {
@@ -226,10 +226,10 @@ fn redo<D: Device>(d: &mut D, part: &mut [u64]) -> Result<(), Gone>
 
 // A frame to a page of the disk.
 fn write_frame<D: Device>(d: &mut D, p: u64, part: &[u64], slot: usize) -> Result<(), Gone>
-    requires ask { MayAsk (medium d.old) p }
+    requires ask { MayAsk (D.medium d.old) p }
     requires long { (length part.now ≡ 62976) × (slot < 120) }
-    ensures wrote { Wrote 1 (medium d.old) p (frame_in (cache part.now).frames slot) (is_ok result) (medium d.new) }
-    ensures tied { tie d.new ≡ tie d.old }
+    ensures wrote { Wrote 1 (D.medium d.old) p (frame_in (cache part.now).frames slot) (is_ok result) (D.medium d.new) }
+    ensures tied { D.tie d.new ≡ D.tie d.old }
 {
     d.write(p, frames::frame(&part[..NEXT], slot))
 }
@@ -239,10 +239,10 @@ fn write_images<D: Device>(d: &mut D, part: &[u64]) -> Result<(), Gone>
     requires long { length part.now ≡ 62976 }
     requires table { Framed (frames_of part.now) }
     requires side { (next part.now).region ≤ 1 }
-    requires big { 393 ≤ (medium d.old).pages }
-    requires asks { (cache part.now).count ≤ (medium d.old).left }
-    ensures row { WroteAll (cache part.now).count (cache part.now).count (slot_in (1 - (next part.now).region)) (batch_words (cache part.now)) (medium d.old) (is_ok result) (medium d.new) }
-    ensures tied { tie d.new ≡ tie d.old }
+    requires big { 393 ≤ (D.medium d.old).pages }
+    requires asks { (cache part.now).count ≤ (D.medium d.old).left }
+    ensures row { WroteAll (cache part.now).count (cache part.now).count (slot_in (1 - (next part.now).region)) (batch_words (cache part.now)) (D.medium d.old) (is_ok result) (D.medium d.new) }
+    ensures tied { D.tie d.new ≡ D.tie d.old }
 {
     for k in 0..frames::batch_len(&part[..NEXT]) {
         let slot = frames::batch_slot(&part[..NEXT], k);
@@ -256,10 +256,10 @@ fn write_images<D: Device>(d: &mut D, part: &[u64]) -> Result<(), Gone>
 fn install<D: Device>(d: &mut D, part: &[u64]) -> Result<(), Gone>
     requires long { length part.now ≡ 62976 }
     requires table { Framed (frames_of part.now) }
-    requires near { (k : ℕ) → k < (cache part.now).count → batch_page (cache part.now) k < (medium d.old).pages }
-    requires asks { (cache part.now).count ≤ (medium d.old).left }
-    ensures row { WroteAll (cache part.now).count (cache part.now).count (batch_page (cache part.now)) (batch_words (cache part.now)) (medium d.old) (is_ok result) (medium d.new) }
-    ensures tied { tie d.new ≡ tie d.old }
+    requires near { (k : ℕ) → k < (cache part.now).count → batch_page (cache part.now) k < (D.medium d.old).pages }
+    requires asks { (cache part.now).count ≤ (D.medium d.old).left }
+    ensures row { WroteAll (cache part.now).count (cache part.now).count (batch_page (cache part.now)) (batch_words (cache part.now)) (D.medium d.old) (is_ok result) (D.medium d.new) }
+    ensures tied { D.tie d.new ≡ D.tie d.old }
 {
     for k in 0..frames::batch_len(&part[..NEXT]) {
         let slot = frames::batch_slot(&part[..NEXT], k);
@@ -271,10 +271,10 @@ fn install<D: Device>(d: &mut D, part: &[u64]) -> Result<(), Gone>
 
 // The changed pages go to the slots of the region that the head doesn't name. Nothing lasts by this.
 pub fn image<D: Device>(d: &mut D, part: &[u64], store: &mut Store) -> Result<(), Gone>
-    requires intact { Intact (medium d.old) part.now store.old }
-    requires asks { (cache part.now).count ≤ (medium d.old).left }
-    ensures shoots { Shoots (medium d.old) part.now store.old (is_ok result) (medium d.new) store.new }
-    ensures tied { tie d.new ≡ tie d.old }
+    requires intact { Intact (D.medium d.old) part.now store.old }
+    requires asks { (cache part.now).count ≤ (D.medium d.old).left }
+    ensures shoots { Shoots (D.medium d.old) part.now store.old (is_ok result) (D.medium d.new) store.new }
+    ensures tied { D.tie d.new ≡ D.tie d.old }
 {
     write_images(d, part)?;
     store.imaged = true;
@@ -345,12 +345,12 @@ fn take_over(part: &mut [u64], root: Root, worked: u64)
 // The imaged batch is taken: its pages, the root that goes with them, and the records that it did come off the queue's front.
 // The appended records last with it.
 pub fn take_batch<D: Device>(d: &mut D, part: &mut [u64], store: &mut Store) -> Result<Lasted, Gone>
-    requires intact { Intact (medium d.old) part.old store.old }
+    requires intact { Intact (D.medium d.old) part.old store.old }
     requires imaged { T store.old.imaged }
-    requires worked { store.old.worked ≤ length (queue_by (next part.old) (medium d.old).shown) }
-    requires asks { (cache part.old).count + 3 ≤ (medium d.old).left }
-    ensures takes { Takes (medium d.old) part.old store.old (is_ok result) (medium d.new) part.new store.new }
-    ensures tied { tie d.new ≡ tie d.old }
+    requires worked { store.old.worked ≤ length (queue_by (next part.old) (D.medium d.old).shown) }
+    requires asks { (cache part.old).count + 3 ≤ (D.medium d.old).left }
+    ensures takes { Takes (D.medium d.old) part.old store.old (is_ok result) (D.medium d.new) part.new store.new }
+    ensures tied { D.tie d.new ≡ D.tie d.old }
 {
     let (root, worked) = (store.root, store.worked);
     make_last(d, store, true)?;
@@ -388,11 +388,11 @@ fn clear_frames(part: &mut [u64])
 
 // After the power came back: the last batch is put in place again, and nothing is in the frames.
 pub fn open<D: Device>(d: &mut D, part: &mut [u64]) -> Result<Store, Gone>
-    requires rested { Rested (medium d.old) }
+    requires rested { Rested (D.medium d.old) }
     requires long { length part.old ≡ 62976 }
-    requires asks { 129 ≤ (medium d.old).left }
-    ensures opens { MatchResult result (λ z. Opened (medium d.old) (medium d.new) part.new z) (λ _. Lost (medium d.old) (medium d.new)) }
-    ensures tied { tie d.new ≡ tie d.old }
+    requires asks { 129 ≤ (D.medium d.old).left }
+    ensures opens { MatchResult result (λ z. Opened (D.medium d.old) (D.medium d.new) part.new z) (λ _. Lost (D.medium d.old) (D.medium d.new)) }
+    ensures tied { D.tie d.new ≡ D.tie d.old }
 {
     load_head(d, part)?;
     redo(d, part)?;
@@ -415,14 +415,14 @@ pub fn load_queue_page<D: Device>(
     store: &Store,
     i: u64,
 ) -> Result<(), Gone>
-    requires intact { Intact (medium d.old) part.old store.now }
+    requires intact { Intact (D.medium d.old) part.old store.now }
     requires full { i < (next part.old).full }
-    requires asks { 0 < (medium d.old).left }
-    ensures reads { Reads (medium d.old) (ring_page (next part.old) i) (scratch_of part.new) (is_ok result) (medium d.new) }
-    ensures intact { Intact (medium d.new) part.new store.now }
+    requires asks { 0 < (D.medium d.old).left }
+    ensures reads { Reads (D.medium d.old) (ring_page (next part.old) i) (scratch_of part.new) (is_ok result) (D.medium d.new) }
+    ensures intact { Intact (D.medium d.new) part.new store.now }
     ensures head { next_of part.new ≡ next_of part.old }
     ensures frames { frames_of part.new ≡ frames_of part.old }
-    ensures tied { tie d.new ≡ tie d.old }
+    ensures tied { D.tie d.new ≡ D.tie d.old }
 {
     let p = head::ring_page(&part[NEXT..NEXT + PAGE], i);
     load_scratch(d, p, part)
@@ -477,11 +477,11 @@ pub fn read_page<D: Device>(
     p: u64,
     into: &mut [u64],
 ) -> Result<(), Gone>
-    requires intact { Intact (medium d.old) part.old store.now }
-    requires near { (393 ≤ p) × ((p < (medium d.old).pages) × (length into.old ≡ 512)) }
-    requires asks { 0 < (medium d.old).left }
-    ensures got { Gets (medium d.old) part.old store.now p into.new (is_ok result) (medium d.new) part.new }
-    ensures tied { tie d.new ≡ tie d.old }
+    requires intact { Intact (D.medium d.old) part.old store.now }
+    requires near { (393 ≤ p) × ((p < (D.medium d.old).pages) × (length into.old ≡ 512)) }
+    requires asks { 0 < (D.medium d.old).left }
+    ensures got { Gets (D.medium d.old) part.old store.now p into.new (is_ok result) (D.medium d.new) part.new }
+    ensures tied { D.tie d.new ≡ D.tie d.old }
 {
     if let Some(slot) = frames::find(&part[..NEXT], p) {
         frames::copy_out(&part[..NEXT], slot, into);
@@ -537,12 +537,12 @@ pub fn write_page(part: &mut [u64], p: u64, words: &[u64])
 
 // A page to use: off the free list, or else one that was never used.
 pub fn alloc<D: Device>(d: &mut D, part: &mut [u64], store: &mut Store) -> Result<u64, Gone>
-    requires intact { Intact (medium d.old) part.old store.old }
-    requires old { (store.old.root.free ≢ 0) → (393 ≤ store.old.root.free) × (store.old.root.free < (medium d.old).pages) }
-    requires new { (393 + store.old.root.used < (medium d.old).pages) × ((medium d.old).pages ≤ 4294967296) }
-    requires asks { 0 < (medium d.old).left }
-    ensures allocs { MatchResult result (λ x. Given (medium d.old) part.old store.old x (medium d.new) part.new store.new) (λ _. Lost (medium d.old) (medium d.new)) }
-    ensures tied { tie d.new ≡ tie d.old }
+    requires intact { Intact (D.medium d.old) part.old store.old }
+    requires old { (store.old.root.free ≢ 0) → (393 ≤ store.old.root.free) × (store.old.root.free < (D.medium d.old).pages) }
+    requires new { (393 + store.old.root.used < (D.medium d.old).pages) × ((D.medium d.old).pages ≤ 4294967296) }
+    requires asks { 0 < (D.medium d.old).left }
+    ensures allocs { MatchResult result (λ x. Given (D.medium d.old) part.old store.old x (D.medium d.new) part.new store.new) (λ _. Lost (D.medium d.old) (D.medium d.new)) }
+    ensures tied { D.tie d.new ≡ D.tie d.old }
 {
     let free = store.root.free;
     if free == 0 {

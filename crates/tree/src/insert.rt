@@ -19,12 +19,12 @@ fn enter<S: PageStore>(
     k: u64,
     x: u64,
 ) -> Result<Option<(u64, u64)>, Gone>
-    requires asks { (1 ≤ (state s.old).taken p) × ((IsNode ((state s.old).page p)) × ((i ≤ count_of ((state s.old).page p)) × ((2 ≤ (state s.old).left) × (1 ≤ (state s.old).room)))) }
-    requires budget { 2 ≤ (state s.old).spare }
-    requires whole { (a : S) × onto a true s.old }
-    ensures got { IfOk result (λ o. Entered 2 (state s.old) (state s.new) (level_of ((state s.old).page p)) p (insert (pairs_of ((state s.old).page p)) i (k, x)) o) }
-    ensures onto { (a : S) → onto a true s.old → onto a (is_ok result) s.new }
-    ensures tied { tie s.new ≡ tie s.old }
+    requires asks { (1 ≤ (S.state s.old).taken p) × ((IsNode ((S.state s.old).page p)) × ((i ≤ count_of ((S.state s.old).page p)) × ((2 ≤ (S.state s.old).left) × (1 ≤ (S.state s.old).room)))) }
+    requires budget { 2 ≤ (S.state s.old).spare }
+    requires whole { (a : S) × S.onto a true s.old }
+    ensures got { IfOk result (λ o. Entered 2 (S.state s.old) (S.state s.new) (level_of ((S.state s.old).page p)) p (insert (pairs_of ((S.state s.old).page p)) i (k, x)) o) }
+    ensures onto { (a : S) → S.onto a true s.old → S.onto a (is_ok result) s.new }
+    ensures tied { S.tie s.new ≡ S.tie s.old }
 {
     let mut page = [0; PAGE_WORDS];
     s.read(p, &mut page)?;
@@ -43,12 +43,12 @@ fn enter<S: PageStore>(
 
 // Makes x the word at place i of the node p.
 fn change<S: PageStore>(s: &mut S, p: u64, i: usize, x: u64) -> Result<(), Gone>
-    requires asks { (1 ≤ (state s.old).taken p) × ((IsNode ((state s.old).page p)) × ((i < count_of ((state s.old).page p)) × (1 ≤ (state s.old).left))) }
-    requires budget { 1 ≤ (state s.old).spare }
-    requires whole { (a : S) × onto a true s.old }
-    ensures got { OnOk result (Entered 1 (state s.old) (state s.new) (level_of ((state s.old).page p)) p (slice_set (pairs_of ((state s.old).page p)) i ((slice_index_or (pairs_of ((state s.old).page p)) i (0, 0)).0, x)) None) }
-    ensures onto { (a : S) → onto a true s.old → onto a (is_ok result) s.new }
-    ensures tied { tie s.new ≡ tie s.old }
+    requires asks { (1 ≤ (S.state s.old).taken p) × ((IsNode ((S.state s.old).page p)) × ((i < count_of ((S.state s.old).page p)) × (1 ≤ (S.state s.old).left))) }
+    requires budget { 1 ≤ (S.state s.old).spare }
+    requires whole { (a : S) × S.onto a true s.old }
+    ensures got { OnOk result (Entered 1 (S.state s.old) (S.state s.new) (level_of ((S.state s.old).page p)) p (slice_set (pairs_of ((S.state s.old).page p)) i ((slice_index_or (pairs_of ((S.state s.old).page p)) i (0, 0)).0, x)) None) }
+    ensures onto { (a : S) → S.onto a true s.old → S.onto a (is_ok result) s.new }
+    ensures tied { S.tie s.new ≡ S.tie s.old }
 {
     let mut page = [0; PAGE_WORDS];
     s.read(p, &mut page)?;
@@ -58,11 +58,11 @@ fn change<S: PageStore>(s: &mut S, p: u64, i: usize, x: u64) -> Result<(), Gone>
 
 // Where k is or would be in the leaf p, and whether it is there.
 fn spot_of<S: PageStore>(s: &mut S, p: u64, k: u64) -> Result<(usize, bool), Gone>
-    requires asks { (0 < (state s.old).left) × ((1 ≤ (state s.old).taken p) × (Leaf ((state s.old).page p))) }
-    requires whole { (a : S) × onto a true s.old }
-    ensures got { IfOk result (λ t. Spot (pairs_of ((state s.old).page p)) k t.0 t.1 × Still 1 (state s.old) (state s.new)) }
-    ensures onto { (a : S) → onto a true s.old → onto a (is_ok result) s.new }
-    ensures tied { tie s.new ≡ tie s.old }
+    requires asks { (0 < (S.state s.old).left) × ((1 ≤ (S.state s.old).taken p) × (Leaf ((S.state s.old).page p))) }
+    requires whole { (a : S) × S.onto a true s.old }
+    ensures got { IfOk result (λ t. Spot (pairs_of ((S.state s.old).page p)) k t.0 t.1 × Still 1 (S.state s.old) (S.state s.new)) }
+    ensures onto { (a : S) → S.onto a true s.old → S.onto a (is_ok result) s.new }
+    ensures tied { S.tie s.new ≡ S.tie s.old }
 {
     let mut page = [0; PAGE_WORDS];
     s.read(p, &mut page)?;
@@ -78,12 +78,12 @@ pub struct Stored {
 
 // Puts the pair (k, x) into the leaf p.
 fn leaf_put<S: PageStore>(s: &mut S, p: u64, k: u64, x: u64) -> Result<Stored, Gone>
-    requires asks { (1 ≤ (state s.old).taken p) × ((Leaf ((state s.old).page p)) × ((level_of ((state s.old).page p) ≡ 0) × ((3 ≤ (state s.old).left) × (1 ≤ (state s.old).room)))) }
-    requires budget { 2 ≤ (state s.old).spare }
-    requires whole { (a : S) × onto a true s.old }
-    ensures got { IfOk result (λ t. Entered 3 (state s.old) (state s.new) 0 p (put_in k x (pairs_of ((state s.old).page p))) t.more × New k (pairs_of ((state s.old).page p)) t.new) }
-    ensures onto { (a : S) → onto a true s.old → onto a (is_ok result) s.new }
-    ensures tied { tie s.new ≡ tie s.old }
+    requires asks { (1 ≤ (S.state s.old).taken p) × ((Leaf ((S.state s.old).page p)) × ((level_of ((S.state s.old).page p) ≡ 0) × ((3 ≤ (S.state s.old).left) × (1 ≤ (S.state s.old).room)))) }
+    requires budget { 2 ≤ (S.state s.old).spare }
+    requires whole { (a : S) × S.onto a true s.old }
+    ensures got { IfOk result (λ t. Entered 3 (S.state s.old) (S.state s.new) 0 p (put_in k x (pairs_of ((S.state s.old).page p))) t.more × New k (pairs_of ((S.state s.old).page p)) t.new) }
+    ensures onto { (a : S) → S.onto a true s.old → S.onto a (is_ok result) s.new }
+    ensures tied { S.tie s.new ≡ S.tie s.old }
 {
     let (i, there) = spot_of(s, p, k)?;
     if there {
@@ -99,12 +99,12 @@ fn leaf_put<S: PageStore>(s: &mut S, p: u64, k: u64, x: u64) -> Result<Stored, G
 
 // Puts the pair (k, x) into the tree at p, at level l.
 fn put_at<S: PageStore>(s: &mut S, p: u64, l: u64, k: u64, x: u64) -> Result<Stored, Gone>
-    requires asks { (Asks (state s.old) l p k) × ((Mine (state s.old) l p) × ((Once (state s.old)) × ((3 * l + 3 ≤ (state s.old).left) × (l + 1 ≤ (state s.old).room)))) }
-    requires budget { 2 * l + 2 ≤ (state s.old).spare }
-    requires whole { (a : S) × onto a true s.old }
-    ensures got { IfOk result (λ t. Grew (3 * l + 3) (state s.old) (state s.new) l p k x t.more × New k (pairs_at (state s.old).page l p) t.new) }
-    ensures onto { (a : S) → onto a true s.old → onto a (is_ok result) s.new }
-    ensures tied { tie s.new ≡ tie s.old }
+    requires asks { (Asks (S.state s.old) l p k) × ((Mine (S.state s.old) l p) × ((Once (S.state s.old)) × ((3 * l + 3 ≤ (S.state s.old).left) × (l + 1 ≤ (S.state s.old).room)))) }
+    requires budget { 2 * l + 2 ≤ (S.state s.old).spare }
+    requires whole { (a : S) × S.onto a true s.old }
+    ensures got { IfOk result (λ t. Grew (3 * l + 3) (S.state s.old) (S.state s.new) l p k x t.more × New k (pairs_at (S.state s.old).page l p) t.new) }
+    ensures onto { (a : S) → S.onto a true s.old → S.onto a (is_ok result) s.new }
+    ensures tied { S.tie s.new ≡ S.tie s.old }
 {
     if l == 0 {
         return leaf_put(s, p, k, x);
@@ -126,12 +126,12 @@ fn build<S: PageStore>(
     x: u64,
     more: Option<(u64, u64)>,
 ) -> Result<u64, Gone>
-    requires asks { (0 < (state s.old).left) × (0 < (state s.old).room) }
-    requires budget { 1 ≤ (state s.old).spare }
-    requires whole { (a : S) × onto a true s.old }
-    ensures got { IfOk result (λ p. Built (state s.old) (state s.new) p l (rows k x more)) }
-    ensures onto { (a : S) → onto a true s.old → onto a (is_ok result) s.new }
-    ensures tied { tie s.new ≡ tie s.old }
+    requires asks { (0 < (S.state s.old).left) × (0 < (S.state s.old).room) }
+    requires budget { 1 ≤ (S.state s.old).spare }
+    requires whole { (a : S) × S.onto a true s.old }
+    ensures got { IfOk result (λ p. Built (S.state s.old) (S.state s.new) p l (rows k x more)) }
+    ensures onto { (a : S) → S.onto a true s.old → S.onto a (is_ok result) s.new }
+    ensures tied { S.tie s.new ≡ S.tie s.old }
 {
     let p = s.alloc()?;
     let mut page = [0; PAGE_WORDS];
@@ -156,12 +156,12 @@ pub fn put<S: PageStore>(
     k: u64,
     x: u64,
 ) -> Result<AfterPut, Gone>
-    requires asks { (Sound (state s.old) height root) × ((Once (state s.old)) × ((height ≤ 6) × ((3 * height + 1 ≤ (state s.old).left) × (height + 1 ≤ (state s.old).room)))) }
-    requires budget { 2 * height + 1 ≤ (state s.old).spare }
-    requires whole { (a : S) × onto a true s.old }
-    ensures got { IfOk result (λ t. Grown (state s.old) (state s.new) height root k x t.height t.root × New k (pairs_of_tree (state s.old).page height root) t.new) }
-    ensures onto { (a : S) → onto a true s.old → onto a (is_ok result) s.new }
-    ensures tied { tie s.new ≡ tie s.old }
+    requires asks { (Sound (S.state s.old) height root) × ((Once (S.state s.old)) × ((height ≤ 6) × ((3 * height + 1 ≤ (S.state s.old).left) × (height + 1 ≤ (S.state s.old).room)))) }
+    requires budget { 2 * height + 1 ≤ (S.state s.old).spare }
+    requires whole { (a : S) × S.onto a true s.old }
+    ensures got { IfOk result (λ t. Grown (S.state s.old) (S.state s.new) height root k x t.height t.root × New k (pairs_of_tree (S.state s.old).page height root) t.new) }
+    ensures onto { (a : S) → S.onto a true s.old → S.onto a (is_ok result) s.new }
+    ensures tied { S.tie s.new ≡ S.tie s.old }
 {
     if height == 0 {
         let p = build(s, 0, k, x, None)?;

@@ -12,12 +12,12 @@ use node::{LEAST, PAGE_WORDS, amend, count, entry, find_key, join, remove_at};
 
 // Joins the nodes a and c, or lends between them; then the first key of c, or nothing if c was given back.
 fn join_pages<S: PageStore>(s: &mut S, a: u64, c: u64, l: u64) -> Result<Option<u64>, Gone>
-    requires asks { (Near (state s.old) l a c) × (2 ≤ (state s.old).left) }
-    requires budget { 1 ≤ (state s.old).spare }
-    requires whole { (a : S) × onto a true s.old }
-    ensures got { IfOk result (λ o. Paired 2 (state s.old) (state s.new) l a c o) }
-    ensures onto { (a : S) → onto a true s.old → onto a (is_ok result) s.new }
-    ensures tied { tie s.new ≡ tie s.old }
+    requires asks { (Near (S.state s.old) l a c) × (2 ≤ (S.state s.old).left) }
+    requires budget { 1 ≤ (S.state s.old).spare }
+    requires whole { (a : S) × S.onto a true s.old }
+    ensures got { IfOk result (λ o. Paired 2 (S.state s.old) (S.state s.new) l a c o) }
+    ensures onto { (a : S) → S.onto a true s.old → S.onto a (is_ok result) s.new }
+    ensures tied { S.tie s.new ≡ S.tie s.old }
 {
     let mut left = [0; PAGE_WORDS];
     let mut right = [0; PAGE_WORDS];
@@ -35,12 +35,12 @@ fn join_pages<S: PageStore>(s: &mut S, a: u64, c: u64, l: u64) -> Result<Option<
 
 // Joins the children of p at j and the next; whether p is thin then.
 fn mend<S: PageStore>(s: &mut S, p: u64, j: usize, l: u64) -> Result<bool, Gone>
-    requires asks { (Mends (state s.old) l p j) × (3 ≤ (state s.old).left) }
-    requires budget { 2 ≤ (state s.old).spare }
-    requires whole { (a : S) × onto a true s.old }
-    ensures got { IfOk result (λ t. Mended 3 (state s.old) (state s.new) l p j (level_of ((state s.old).page p)) (pairs_of ((state s.old).page p)) t) }
-    ensures onto { (a : S) → onto a true s.old → onto a (is_ok result) s.new }
-    ensures tied { tie s.new ≡ tie s.old }
+    requires asks { (Mends (S.state s.old) l p j) × (3 ≤ (S.state s.old).left) }
+    requires budget { 2 ≤ (S.state s.old).spare }
+    requires whole { (a : S) × S.onto a true s.old }
+    ensures got { IfOk result (λ t. Mended 3 (S.state s.old) (S.state s.new) l p j (level_of ((S.state s.old).page p)) (pairs_of ((S.state s.old).page p)) t) }
+    ensures onto { (a : S) → S.onto a true s.old → S.onto a (is_ok result) s.new }
+    ensures tied { S.tie s.new ≡ S.tie s.old }
 {
     let mut page = [0; PAGE_WORDS];
     s.read(p, &mut page)?;
@@ -61,12 +61,12 @@ pub struct Lost {
 
 // Takes the pair at k out of the leaf p.
 fn leaf_drop<S: PageStore>(s: &mut S, p: u64, k: u64) -> Result<Lost, Gone>
-    requires asks { (0 < (state s.old).left) × ((1 ≤ (state s.old).taken p) × ((Leaf ((state s.old).page p)) × (level_of ((state s.old).page p) ≡ 0))) }
-    requires budget { 1 ≤ (state s.old).spare }
-    requires whole { (a : S) × onto a true s.old }
-    ensures got { IfOk result (λ t. Cut 1 (state s.old) (state s.new) p (pairs_of ((state s.old).page p)) (drop_in k (pairs_of ((state s.old).page p))) t.thin × Was k (pairs_of ((state s.old).page p)) t.was) }
-    ensures onto { (a : S) → onto a true s.old → onto a (is_ok result) s.new }
-    ensures tied { tie s.new ≡ tie s.old }
+    requires asks { (0 < (S.state s.old).left) × ((1 ≤ (S.state s.old).taken p) × ((Leaf ((S.state s.old).page p)) × (level_of ((S.state s.old).page p) ≡ 0))) }
+    requires budget { 1 ≤ (S.state s.old).spare }
+    requires whole { (a : S) × S.onto a true s.old }
+    ensures got { IfOk result (λ t. Cut 1 (S.state s.old) (S.state s.new) p (pairs_of ((S.state s.old).page p)) (drop_in k (pairs_of ((S.state s.old).page p))) t.thin × Was k (pairs_of ((S.state s.old).page p)) t.was) }
+    ensures onto { (a : S) → S.onto a true s.old → S.onto a (is_ok result) s.new }
+    ensures tied { S.tie s.new ≡ S.tie s.old }
 {
     let mut page = [0; PAGE_WORDS];
     s.read(p, &mut page)?;
@@ -87,12 +87,12 @@ fn leaf_drop<S: PageStore>(s: &mut S, p: u64, k: u64) -> Result<Lost, Gone>
 
 // Takes the pair at k out of the tree at p, at level l.
 fn drop_at<S: PageStore>(s: &mut S, p: u64, l: u64, k: u64) -> Result<Lost, Gone>
-    requires asks { (Asks (state s.old) l p k) × ((Mine (state s.old) l p) × ((Once (state s.old)) × ((Wide (state s.old) l p) × (4 * l + 1 ≤ (state s.old).left)))) }
-    requires budget { 2 * l + 1 ≤ (state s.old).spare }
-    requires whole { (a : S) × onto a true s.old }
-    ensures got { IfOk result (λ t. Shrunk (4 * l + 1) (state s.old) (state s.new) l p k t.thin × Was k (pairs_at (state s.old).page l p) t.was) }
-    ensures onto { (a : S) → onto a true s.old → onto a (is_ok result) s.new }
-    ensures tied { tie s.new ≡ tie s.old }
+    requires asks { (Asks (S.state s.old) l p k) × ((Mine (S.state s.old) l p) × ((Once (S.state s.old)) × ((Wide (S.state s.old) l p) × (4 * l + 1 ≤ (S.state s.old).left)))) }
+    requires budget { 2 * l + 1 ≤ (S.state s.old).spare }
+    requires whole { (a : S) × S.onto a true s.old }
+    ensures got { IfOk result (λ t. Shrunk (4 * l + 1) (S.state s.old) (S.state s.new) l p k t.thin × Was k (pairs_at (S.state s.old).page l p) t.was) }
+    ensures onto { (a : S) → S.onto a true s.old → S.onto a (is_ok result) s.new }
+    ensures tied { S.tie s.new ≡ S.tie s.old }
 {
     if l == 0 {
         return leaf_drop(s, p, k);
@@ -108,12 +108,12 @@ fn drop_at<S: PageStore>(s: &mut S, p: u64, l: u64, k: u64) -> Result<Lost, Gone
 
 // Gives back a root that has no pair, or one child only; then the root and the height.
 fn crown<S: PageStore>(s: &mut S, root: u64, height: u64) -> Result<(u64, u64), Gone>
-    requires asks { (Worn (state s.old) height root) × ((Once (state s.old)) × (0 < (state s.old).left)) }
-    requires budget { 1 ≤ (state s.old).spare }
-    requires whole { (a : S) × onto a true s.old }
-    ensures got { IfOk result (λ t. Crowned (state s.old) (state s.new) height root t.1 t.0) }
-    ensures onto { (a : S) → onto a true s.old → onto a (is_ok result) s.new }
-    ensures tied { tie s.new ≡ tie s.old }
+    requires asks { (Worn (S.state s.old) height root) × ((Once (S.state s.old)) × (0 < (S.state s.old).left)) }
+    requires budget { 1 ≤ (S.state s.old).spare }
+    requires whole { (a : S) × S.onto a true s.old }
+    ensures got { IfOk result (λ t. Crowned (S.state s.old) (S.state s.new) height root t.1 t.0) }
+    ensures onto { (a : S) → S.onto a true s.old → S.onto a (is_ok result) s.new }
+    ensures tied { S.tie s.new ≡ S.tie s.old }
 {
     let mut page = [0; PAGE_WORDS];
     s.read(root, &mut page)?;
@@ -143,12 +143,12 @@ pub struct AfterDrop {
 
 // Takes the pair at k out of the tree.
 pub fn drop<S: PageStore>(s: &mut S, root: u64, height: u64, k: u64) -> Result<AfterDrop, Gone>
-    requires asks { (Sound (state s.old) height root) × ((Once (state s.old)) × (4 * height ≤ (state s.old).left)) }
-    requires budget { 2 * height ≤ (state s.old).spare }
-    requires whole { (a : S) × onto a true s.old }
-    ensures got { IfOk result (λ t. Dropped (state s.old) (state s.new) height root k t.height t.root × Was k (pairs_of_tree (state s.old).page height root) t.was) }
-    ensures onto { (a : S) → onto a true s.old → onto a (is_ok result) s.new }
-    ensures tied { tie s.new ≡ tie s.old }
+    requires asks { (Sound (S.state s.old) height root) × ((Once (S.state s.old)) × (4 * height ≤ (S.state s.old).left)) }
+    requires budget { 2 * height ≤ (S.state s.old).spare }
+    requires whole { (a : S) × S.onto a true s.old }
+    ensures got { IfOk result (λ t. Dropped (S.state s.old) (S.state s.new) height root k t.height t.root × Was k (pairs_of_tree (S.state s.old).page height root) t.was) }
+    ensures onto { (a : S) → S.onto a true s.old → S.onto a (is_ok result) s.new }
+    ensures tied { S.tie s.new ≡ S.tie s.old }
 {
     if height == 0 {
         return Ok(AfterDrop {

@@ -15,14 +15,14 @@ use tree::Gone;
 // One record; tells what the tree gains or loses by it.
 fn work_in<D: Index>(index: &mut D, room: &mut [u64], line: Line) -> Result<Change, Gone>
     requires room { length room.old ≡ 262144 }
-    requires asks { ((budget index.old).change ≤ (budget index.old).left) × (ready index.old (behind room.old)) }
-    requires whole { (a : D) × (w : List ℕ) × onto a w true index.old (behind room.old) }
+    requires asks { ((D.budget index.old).change ≤ (D.budget index.old).left) × (D.ready index.old (behind room.old)) }
+    requires whole { (a : D) × (w : List ℕ) × D.onto a w true index.old (behind room.old) }
     ensures told { IfOk result (λ h. h ≡ change_by line) }
-    ensures done { OnOk result (pairs index.new (behind room.new) ≡ with_lines (pairs index.old (behind room.old)) (line ∷ [])) }
-    ensures asked { OnOk result ((budget index.old).left ≤ (budget index.new).left + (budget index.old).change) }
+    ensures done { OnOk result (D.pairs index.new (behind room.new) ≡ with_lines (D.pairs index.old (behind room.old)) (line ∷ [])) }
+    ensures asked { OnOk result ((D.budget index.old).left ≤ (D.budget index.new).left + (D.budget index.old).change) }
     ensures tables { tables room.new ≡ tables room.old }
-    ensures onto { (a : D) (w : List ℕ) → onto a w true index.old (behind room.old) → onto a w (is_ok result) index.new (behind room.new) }
-    ensures tied { tie index.new ≡ tie index.old }
+    ensures onto { (a : D) (w : List ℕ) → D.onto a w true index.old (behind room.old) → D.onto a w (is_ok result) index.new (behind room.new) }
+    ensures tied { D.tie index.new ≡ D.tie index.old }
 {
     match line {
         Line::Wrote(k, x) => {
@@ -46,20 +46,20 @@ pub fn apply_front<D: Index>(
     queue: Ring,
 ) -> Result<Ring, Gone>
     requires stands { (QueueIn room.old queue) × ((0 < queue.count) × (Counts counts.now)) }
-    requires up { Rising (pairs index.old (behind room.old)) }
-    requires succs { SuccOk (pairs index.old (behind room.old)) (queue_lines room.old queue) }
-    requires asks { ((budget index.old).change ≤ (budget index.old).left) × (ready index.old (behind room.old)) }
-    requires whole { (a : D) × (w : List ℕ) × onto a w true index.old (behind room.old) }
-    ensures applied { IfOk result (λ s. Applied (pairs index.old (behind room.old)) (pairs index.new (behind room.new)) room.old room.new counts.now queue s) }
-    ensures pairs { IfOk result (λ s. with_lines (pairs index.new (behind room.new)) (queue_lines room.new s) ≡ with_lines (pairs index.old (behind room.old)) (queue_lines room.old queue)) }
-    ensures up { OnOk result (Rising (pairs index.new (behind room.new))) }
-    ensures succs { IfOk result (λ s. SuccOk (pairs index.new (behind room.new)) (queue_lines room.new s)) }
-    ensures deals { OnOk result ((c : ℕ) → c < 32 → SuccOk (pairs index.old (behind room.old)) (deal_lines room.old c (slice_index counts.now c)) → SuccOk (pairs index.new (behind room.new)) (deal_lines room.new c (slice_index counts.now c))) }
+    requires up { Rising (D.pairs index.old (behind room.old)) }
+    requires succs { SuccOk (D.pairs index.old (behind room.old)) (queue_lines room.old queue) }
+    requires asks { ((D.budget index.old).change ≤ (D.budget index.old).left) × (D.ready index.old (behind room.old)) }
+    requires whole { (a : D) × (w : List ℕ) × D.onto a w true index.old (behind room.old) }
+    ensures applied { IfOk result (λ s. Applied (D.pairs index.old (behind room.old)) (D.pairs index.new (behind room.new)) room.old room.new counts.now queue s) }
+    ensures pairs { IfOk result (λ s. with_lines (D.pairs index.new (behind room.new)) (queue_lines room.new s) ≡ with_lines (D.pairs index.old (behind room.old)) (queue_lines room.old queue)) }
+    ensures up { OnOk result (Rising (D.pairs index.new (behind room.new))) }
+    ensures succs { IfOk result (λ s. SuccOk (D.pairs index.new (behind room.new)) (queue_lines room.new s)) }
+    ensures deals { OnOk result ((c : ℕ) → c < 32 → SuccOk (D.pairs index.old (behind room.old)) (deal_lines room.old c (slice_index counts.now c)) → SuccOk (D.pairs index.new (behind room.new)) (deal_lines room.new c (slice_index counts.now c))) }
     ensures queue { IfOk result (λ s. QueueIn room.new s × (s.count + 1 ≡ queue.count)) }
     ensures gone { is_ok result ≡ false → tables room.new ≡ tables room.old }
-    ensures asked { OnOk result ((budget index.old).left ≤ (budget index.new).left + (budget index.old).change) }
-    ensures onto { (a : D) (w : List ℕ) → onto a w true index.old (behind room.old) → onto a w (is_ok result) index.new (behind room.new) }
-    ensures tied { tie index.new ≡ tie index.old }
+    ensures asked { OnOk result ((D.budget index.old).left ≤ (D.budget index.new).left + (D.budget index.old).change) }
+    ensures onto { (a : D) (w : List ℕ) → D.onto a w true index.old (behind room.old) → D.onto a w (is_ok result) index.new (behind room.new) }
+    ensures tied { D.tie index.new ≡ D.tie index.old }
 {
     let (line, rest) = front_of(room, queue);
     let change = work_in(index, room, line)?;

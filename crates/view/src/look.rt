@@ -34,16 +34,16 @@ pub fn look<D: Index>(
     k: u64,
 ) -> Result<Option<u64>, Gone>
     requires stands { Stands room.old view }
-    requires up { Rising (pairs index.old (behind room.old)) }
-    requires asks { (budget index.old).get ≤ (budget index.old).left }
-    requires whole { (a : D) × (w : List ℕ) × onto a w true index.old (behind room.old) }
-    ensures found { IfOk result (λ o. o ≡ viewed (pairs index.old (behind room.old)) (queue_of room.old view) (own_of room.old view) k) }
-    ensures told { IfOk result (λ o. o ≡ find k (pairs_seen (pairs index.old (behind room.old)) room.old view)) }
-    ensures same { OnOk result (pairs index.new (behind room.new) ≡ pairs index.old (behind room.old)) }
-    ensures asked { OnOk result (Spent (budget index.old).get (budget index.old) (budget index.new)) }
+    requires up { Rising (D.pairs index.old (behind room.old)) }
+    requires asks { (D.budget index.old).get ≤ (D.budget index.old).left }
+    requires whole { (a : D) × (w : List ℕ) × D.onto a w true index.old (behind room.old) }
+    ensures found { IfOk result (λ o. o ≡ viewed (D.pairs index.old (behind room.old)) (queue_of room.old view) (own_of room.old view) k) }
+    ensures told { IfOk result (λ o. o ≡ find k (pairs_seen (D.pairs index.old (behind room.old)) room.old view)) }
+    ensures same { OnOk result (D.pairs index.new (behind room.new) ≡ D.pairs index.old (behind room.old)) }
+    ensures asked { OnOk result (Spent (D.budget index.old).get (D.budget index.old) (D.budget index.new)) }
     ensures tables { tables room.new ≡ tables room.old }
-    ensures onto { (a : D) (w : List ℕ) → onto a w true index.old (behind room.old) → onto a w (is_ok result) index.new (behind room.new) }
-    ensures tied { tie index.new ≡ tie index.old }
+    ensures onto { (a : D) (w : List ℕ) → D.onto a w true index.old (behind room.old) → D.onto a w (is_ok result) index.new (behind room.new) }
+    ensures tied { D.tie index.new ≡ D.tie index.old }
 {
     match settled(in_room(room, view, k)) {
         Some(found) => Ok(found),
@@ -69,16 +69,16 @@ pub fn next_key<D: Index>(
     k: u64,
 ) -> Result<Option<u64>, Gone>
     requires stands { Stands room.old view }
-    requires up { Rising (pairs index.old (behind room.old)) }
-    requires succs { (SuccOk (pairs index.old (behind room.old)) (queue_of room.old view)) × (SuccOk (pairs index.old (behind room.old)) (own_of room.old view)) }
-    requires asks { (budget index.old).next ≤ (budget index.old).left }
-    requires whole { (a : D) × (w : List ℕ) × onto a w true index.old (behind room.old) }
-    ensures told { IfOk result (λ o. o ≡ next_key k (pairs_seen (pairs index.old (behind room.old)) room.old view)) }
-    ensures same { OnOk result (pairs index.new (behind room.new) ≡ pairs index.old (behind room.old)) }
-    ensures asked { OnOk result (Spent (budget index.old).next (budget index.old) (budget index.new)) }
+    requires up { Rising (D.pairs index.old (behind room.old)) }
+    requires succs { (SuccOk (D.pairs index.old (behind room.old)) (queue_of room.old view)) × (SuccOk (D.pairs index.old (behind room.old)) (own_of room.old view)) }
+    requires asks { (D.budget index.old).next ≤ (D.budget index.old).left }
+    requires whole { (a : D) × (w : List ℕ) × D.onto a w true index.old (behind room.old) }
+    ensures told { IfOk result (λ o. o ≡ next_key k (pairs_seen (D.pairs index.old (behind room.old)) room.old view)) }
+    ensures same { OnOk result (D.pairs index.new (behind room.new) ≡ D.pairs index.old (behind room.old)) }
+    ensures asked { OnOk result (Spent (D.budget index.old).next (D.budget index.old) (D.budget index.new)) }
     ensures tables { tables room.new ≡ tables room.old }
-    ensures onto { (a : D) (w : List ℕ) → onto a w true index.old (behind room.old) → onto a w (is_ok result) index.new (behind room.new) }
-    ensures tied { tie index.new ≡ tie index.old }
+    ensures onto { (a : D) (w : List ℕ) → D.onto a w true index.old (behind room.old) → D.onto a w (is_ok result) index.new (behind room.new) }
+    ensures tied { D.tie index.new ≡ D.tie index.old }
 {
     let pair = index.next(room, k)?;
     Ok(onward(room, view, k, key_of(pair)))
@@ -92,16 +92,16 @@ pub fn next_pair<D: Index>(
     k: u64,
 ) -> Result<Option<(u64, u64)>, Gone>
     requires stands { Stands room.old view }
-    requires up { Rising (pairs index.old (behind room.old)) }
-    requires succs { (SuccOk (pairs index.old (behind room.old)) (queue_of room.old view)) × (SuccOk (pairs index.old (behind room.old)) (own_of room.old view)) }
-    requires asks { (budget index.old).next + (budget index.old).get ≤ (budget index.old).left }
-    requires whole { (a : D) × (w : List ℕ) × onto a w true index.old (behind room.old) }
-    ensures told { IfOk result (λ o. o ≡ above k (pairs_seen (pairs index.old (behind room.old)) room.old view)) }
-    ensures same { OnOk result (pairs index.new (behind room.new) ≡ pairs index.old (behind room.old)) }
-    ensures asked { OnOk result (Spent ((budget index.old).next + (budget index.old).get) (budget index.old) (budget index.new)) }
+    requires up { Rising (D.pairs index.old (behind room.old)) }
+    requires succs { (SuccOk (D.pairs index.old (behind room.old)) (queue_of room.old view)) × (SuccOk (D.pairs index.old (behind room.old)) (own_of room.old view)) }
+    requires asks { (D.budget index.old).next + (D.budget index.old).get ≤ (D.budget index.old).left }
+    requires whole { (a : D) × (w : List ℕ) × D.onto a w true index.old (behind room.old) }
+    ensures told { IfOk result (λ o. o ≡ above k (pairs_seen (D.pairs index.old (behind room.old)) room.old view)) }
+    ensures same { OnOk result (D.pairs index.new (behind room.new) ≡ D.pairs index.old (behind room.old)) }
+    ensures asked { OnOk result (Spent ((D.budget index.old).next + (D.budget index.old).get) (D.budget index.old) (D.budget index.new)) }
     ensures tables { tables room.new ≡ tables room.old }
-    ensures onto { (a : D) (w : List ℕ) → onto a w true index.old (behind room.old) → onto a w (is_ok result) index.new (behind room.new) }
-    ensures tied { tie index.new ≡ tie index.old }
+    ensures onto { (a : D) (w : List ℕ) → D.onto a w true index.old (behind room.old) → D.onto a w (is_ok result) index.new (behind room.new) }
+    ensures tied { D.tie index.new ≡ D.tie index.old }
 {
     match next_key(index, room, view, k)? {
         None => Ok(None),
@@ -115,14 +115,14 @@ pub fn next_pair<D: Index>(
 // A drop's line, as the tree is now. Exactly one `next`.
 pub fn drop_line<D: Index>(index: &mut D, room: &mut [u64], k: u64) -> Result<Line, Gone>
     requires room { length room.old ≡ 262144 }
-    requires asks { (budget index.old).next ≤ (budget index.old).left }
-    requires whole { (a : D) × (w : List ℕ) × onto a w true index.old (behind room.old) }
-    ensures told { IfOk result (λ l. l ≡ Cleared k (next_key k (pairs index.old (behind room.old)))) }
-    ensures same { OnOk result (pairs index.new (behind room.new) ≡ pairs index.old (behind room.old)) }
-    ensures asked { OnOk result (Spent (budget index.old).next (budget index.old) (budget index.new)) }
+    requires asks { (D.budget index.old).next ≤ (D.budget index.old).left }
+    requires whole { (a : D) × (w : List ℕ) × D.onto a w true index.old (behind room.old) }
+    ensures told { IfOk result (λ l. l ≡ Cleared k (next_key k (D.pairs index.old (behind room.old)))) }
+    ensures same { OnOk result (D.pairs index.new (behind room.new) ≡ D.pairs index.old (behind room.old)) }
+    ensures asked { OnOk result (Spent (D.budget index.old).next (D.budget index.old) (D.budget index.new)) }
     ensures tables { tables room.new ≡ tables room.old }
-    ensures onto { (a : D) (w : List ℕ) → onto a w true index.old (behind room.old) → onto a w (is_ok result) index.new (behind room.new) }
-    ensures tied { tie index.new ≡ tie index.old }
+    ensures onto { (a : D) (w : List ℕ) → D.onto a w true index.old (behind room.old) → D.onto a w (is_ok result) index.new (behind room.new) }
+    ensures tied { D.tie index.new ≡ D.tie index.old }
 {
     let pair = index.next(room, k)?;
     Ok(Line::Cleared(k, key_of(pair)))

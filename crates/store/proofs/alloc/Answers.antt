@@ -7,6 +7,6 @@ returns-then-free-eq0 g c = record { allocs = given_new _ c.args.part.now c.args
 
 pub returns : goal.returns
 returns g c = record {
-  allocs = given_old _ _ c.args.part.now c.read_page.new.part c.args.store.now c.read_page.new.into _ c.if-free-eq0.false c.in-ok-read_page.ensures.got refl;
+  allocs = given_old _ _ c.args.part.now c.read_page.new.part c.args.store.now c.read_page.new.into _ c.if-free-eq0.false c.in_ok-read_page.ensures.got refl;
   tied = c.read_page.ensures.tied;
 }

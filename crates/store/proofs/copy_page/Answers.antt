@@ -5,20 +5,20 @@ use Rattle.store.proofs.Over.{wrote_copy, wrote_not}
 use Rattle.store.proofs.Places.{length_scratch}
 use Rattle.store.proofs.copy_page.Goals as goal
 
-pub returns-in-err-load_scratch : goal.returns-in-err-load_scratch
-returns-in-err-load_scratch g c =
+pub returns-in_err-load_scratch : goal.returns-in_err-load_scratch
+returns-in_err-load_scratch g c =
     let p = err_from_is_err_and c.from-residual.result c.from-residual.ensures.1 in
-    record { wrote = rw p.1 (wrote_not c.args.to _ c.in-err-load_scratch.ensures.reads); head = c.load_scratch.ensures.head; tied = c.load_scratch.ensures.tied }
+    record { wrote = rw p.1 (wrote_not c.args.to _ c.in_err-load_scratch.ensures.reads); head = c.load_scratch.ensures.head; tied = c.load_scratch.ensures.tied }
 
 pub write-requires : goal.write-requires
 write-requires g c =
-    let r = c.in-ok-load_scratch.ensures.reads in
+    let r = c.in_ok-load_scratch.ensures.reads in
     ((omega (arith, c.requires.asks, r.left), omega (arith, c.requires.near.1, r.pages)), length_scratch c.load_scratch.new.part (c.load_scratch.auto.part ∙ c.requires.long))
 
 pub returns : goal.returns
 unfolding scratch_of
 returns g c = record {
-  wrote = wrote_copy c.in-ok-load_scratch.ensures.reads c.write.ensures.wrote;
+  wrote = wrote_copy c.in_ok-load_scratch.ensures.reads c.write.ensures.wrote;
   head = c.load_scratch.ensures.head;
   tied = c.write.ensures.tied ∙ c.load_scratch.ensures.tied;
 }

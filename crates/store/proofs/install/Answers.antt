@@ -26,18 +26,18 @@ write_frame-requires g c =
       long = (c.requires.long, c.batch_slot-slot.ensures.low);
     }
 
-pub returns-in-err-write_frame : goal.returns-in-err-write_frame
-returns-in-err-write_frame g c =
+pub returns-in_err-write_frame : goal.returns-in_err-write_frame
+returns-in_err-write_frame g c =
     let p = err_from_is_err_and c.from-residual.result c.from-residual.ensures.1 in
     record {
       row = rw p.1 (wrote_part (omega (arith, c.loop-k-test.true, c.batch_len-k-end.ensures.count)) (omega (arith, c.loop-k-test.true, c.batch_len-k-end.ensures.count))
-          (wrote_more c.loop-k.invariant.0 c.in-err-write_frame.ensures.wrote c.batch_page-to.ensures (ap (frame_in (cache c.args.part.now).frames) c.batch_slot-slot.ensures.slot)));
+          (wrote_more c.loop-k.invariant.0 c.in_err-write_frame.ensures.wrote c.batch_page-to.ensures (ap (frame_in (cache c.args.part.now).frames) c.batch_slot-slot.ensures.slot)));
       tied = c.write_frame.ensures.tied ∙ c.loop-k.invariant.1;
     }
 
 pub loop-k-preserved : goal.loop-k-preserved
 loop-k-preserved g c = (
-  wrote_more c.loop-k.invariant.0 c.in-ok-write_frame.ensures.wrote c.batch_page-to.ensures (ap (frame_in (cache c.args.part.now).frames) c.batch_slot-slot.ensures.slot),
+  wrote_more c.loop-k.invariant.0 c.in_ok-write_frame.ensures.wrote c.batch_page-to.ensures (ap (frame_in (cache c.args.part.now).frames) c.batch_slot-slot.ensures.slot),
   c.write_frame.ensures.tied ∙ c.loop-k.invariant.1,
 )
 

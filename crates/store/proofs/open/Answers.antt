@@ -9,24 +9,24 @@ use Rattle.store.proofs.Places.{length_next}
 use Rattle.store.proofs.Comes.{rested_read, read_lost, redo_lost, opened}
 use Rattle.store.proofs.open.Goals as goal
 
-pub returns-in-err-load_head : goal.returns-in-err-load_head
-returns-in-err-load_head g c = record {
-  opens = MatchResult-from_err c.from-residual.result _ _ c.from-residual.ensures.0 (λ _. read_lost _ _ _ _ (rested_safe c.requires.rested) c.in-err-load_head.ensures.reads);
+pub returns-in_err-load_head : goal.returns-in_err-load_head
+returns-in_err-load_head g c = record {
+  opens = MatchResult-from_err c.from-residual.result _ _ c.from-residual.ensures.0 (λ _. read_lost _ _ _ _ (rested_safe c.requires.rested) c.in_err-load_head.ensures.reads);
   tied = c.load_head.ensures.tied;
 }
 
 pub redo-requires : goal.redo-requires
-redo-requires g c = let r = c.in-ok-load_head.ensures.reads in record {
+redo-requires g c = let r = c.in_ok-load_head.ensures.reads in record {
   rested = rested_read _ _ _ _ _ r c.requires.rested;
   asks = omega (arith, r.left, c.requires.asks);
   long = c.load_head.auto.part ∙ c.requires.long;
   head = r.got tt ∙ sym (ap (λ s. s 0) r.shown);
 }
 
-pub returns-in-err-redo : goal.returns-in-err-redo
-returns-in-err-redo g c = record {
-  opens = MatchResult-from_err c.from-residual-in-err-redo.result _ _ c.from-residual-in-err-redo.ensures.0
-      (λ _. redo_lost (g.D.Device.medium c.args.d.now) _ _ c.load_head.new.part false c.requires.rested c.in-ok-load_head.ensures.reads c.in-err-redo.ensures.row tt);
+pub returns-in_err-redo : goal.returns-in_err-redo
+returns-in_err-redo g c = record {
+  opens = MatchResult-from_err c.from-residual-in_err-redo.result _ _ c.from-residual-in_err-redo.ensures.0
+      (λ _. redo_lost (g.D.Device.medium c.args.d.now) _ _ c.load_head.new.part false c.requires.rested c.in_ok-load_head.ensures.reads c.in_err-redo.ensures.row tt);
   tied = c.redo.ensures.tied ∙ c.load_head.ensures.tied;
 }
 
@@ -34,7 +34,7 @@ pub clear_frames-requires : goal.clear_frames-requires
 clear_frames-requires g c = record { long = c.redo.auto.part ∙ c.load_head.auto.part ∙ c.requires.long }
 
 pub stamp-requires : goal.stamp-requires
-stamp-requires g c = let r = c.in-ok-load_head.ensures.reads in record {
+stamp-requires g c = let r = c.in_ok-load_head.ensures.reads in record {
   long = c.clear_frames.auto.part ∙ c.redo.auto.part ∙ c.load_head.auto.part ∙ c.requires.long;
   few = subst (λ (w : List ℕ). length (head_of w).targets ≤ 64) (sym (c.clear_frames.ensures.head ∙ c.redo.ensures.head ∙ r.got tt)) c.requires.rested.head.few;
 }
@@ -47,7 +47,7 @@ returns g c =
     let f = c.stamp.ensures.frames in
     record {
       opens = opened (g.D.Device.medium c.args.d.now) (g.D.Device.medium c.load_head.new.d) (g.D.Device.medium c.redo.new.d) c.load_head.new.part true c.requires.rested
-          c.in-ok-load_head.ensures.reads c.in-ok-redo.ensures.row tt c.stamp.new.part _
+          c.in_ok-load_head.ensures.reads c.in_ok-redo.ensures.row tt c.stamp.new.part _
           (c.stamp.auto.part ∙ c.clear_frames.auto.part ∙ c.redo.auto.part ∙ c.load_head.auto.part ∙ c.requires.long)
           (c.stamp.ensures.stamped ∙ ap (λ w. stamped (head_of w)) (c.clear_frames.ensures.head ∙ c.redo.ensures.head))
           (subst Framed (sym f) c.clear_frames.ensures.table) (ap cache_of f ∙ c.clear_frames.ensures.cache)

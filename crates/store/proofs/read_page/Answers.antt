@@ -8,17 +8,17 @@ pub returns-in-Some : goal.returns-in-Some
 returns-in-Some g c = record
     { got = got_frame _ c.args.part.now c.args.store.now c.args.p c.in-Some.slot _ c.requires.intact (sym c.in-Some.ensures.slot) c.copy_out.ensures; tied = refl }
 
-pub returns-in-err-read : goal.returns-in-err-read
-returns-in-err-read g c =
+pub returns-in_err-read : goal.returns-in_err-read
+returns-in_err-read g c =
     let p = err_from_is_err_and c.from-residual.result c.from-residual.ensures.1 in
-    record { got = rw p.1 (read_lost _ _ _ _ c.requires.intact.ready.kept.safe c.in-err-read.ensures.reads); tied = c.read.ensures.tied }
+    record { got = rw p.1 (read_lost _ _ _ _ c.requires.intact.ready.kept.safe c.in_err-read.ensures.reads); tied = c.read.ensures.tied }
 
 pub returns : goal.returns
 returns g c =
-    let r = c.in-ok-read.ensures.reads in
+    let r = c.in_ok-read.ensures.reads in
     let m = g.D.Device.medium c.args.d.now in let e = g.D.Device.medium c.read.new.self in
     record {
-      got = got_disk m e c.args.part.now c.keep.new.part c.args.store.now c.args.p c.read.new.into (sym c.in-default.ensures.slot) r
+      got = got_disk m e c.args.part.now c.keep.new.part c.args.store.now c.args.p c.read.new.into (sym c.in_default.ensures.slot) r
           (c.keep.ensures.kept e c.args.store.now (intact_read m e c.args.part.now c.args.store.now _ _ _ r c.requires.intact) c.requires.near.0 (omega (arith, c.requires.near.1.0, r.pages)) (r.got tt ∙ sym (ap (λ s. s c.args.p) r.shown)));
       tied = c.read.ensures.tied;
     }

@@ -9,8 +9,8 @@ use Rattle.store.proofs.redo.Goals as goal
 pub loop-k-init : goal.loop-k-init
 loop-k-init g c = (wrote_none _ _ _, c.requires.long, refl, refl)
 
-pub returns-in-err-copy_page : goal.returns-in-err-copy_page
-returns-in-err-copy_page g c =
+pub returns-in_err-copy_page : goal.returns-in_err-copy_page
+returns-in_err-copy_page g c =
     let p = err_from_is_err_and c.from-residual.result c.from-residual.ensures.1 in
     let h = next c.args.part.now in
     let e : next c.loop-k.part ≡ next c.args.part.now = ap head_of c.loop-k.invariant.2 in
@@ -18,7 +18,7 @@ returns-in-err-copy_page g c =
     let l : c.loop-k.k < length (next c.args.part.now).targets = omega (arith, c.loop-k-test.true, c.batch_len-n.ensures) in
     record {
       row = rw p.1 (wrote_part (omega (arith, s.few)) (omega arith) (copied_more _ _ _ h _ c.loop-k.k _ _ _ s l
-          (c.image_slot-from.ensures ∙ ap (λ (z : Head). slot z c.loop-k.k) e) (c.target-to.ensures ∙ ap (λ (z : Head). target z c.loop-k.k) e) c.loop-k.invariant.0 c.in-err-copy_page.ensures.wrote));
+          (c.image_slot-from.ensures ∙ ap (λ (z : Head). slot z c.loop-k.k) e) (c.target-to.ensures ∙ ap (λ (z : Head). target z c.loop-k.k) e) c.loop-k.invariant.0 c.in_err-copy_page.ensures.wrote));
       head = c.copy_page.ensures.head ∙ c.loop-k.invariant.2;
       tied = c.copy_page.ensures.tied ∙ c.loop-k.invariant.3;
     }
@@ -30,7 +30,7 @@ loop-k-preserved g c =
     let s : Sound (g.D.Device.medium c.args.d.now).pages (next c.args.part.now) = subst (λ w. Sound (g.D.Device.medium c.args.d.now).pages (head_of w)) (sym c.requires.head) c.requires.rested.head in
     let l : c.loop-k.k < length (next c.args.part.now).targets = omega (arith, c.loop-k-test.true, c.batch_len-n.ensures) in (
       wrote_all (omega arith) (omega arith) (omega arith) (copied_more _ _ _ h _ c.loop-k.k _ _ _ s l
-          (c.image_slot-from.ensures ∙ ap (λ (z : Head). slot z c.loop-k.k) e) (c.target-to.ensures ∙ ap (λ (z : Head). target z c.loop-k.k) e) c.loop-k.invariant.0 c.in-ok-copy_page.ensures.wrote),
+          (c.image_slot-from.ensures ∙ ap (λ (z : Head). slot z c.loop-k.k) e) (c.target-to.ensures ∙ ap (λ (z : Head). target z c.loop-k.k) e) c.loop-k.invariant.0 c.in_ok-copy_page.ensures.wrote),
       c.copy_page.auto.part ∙ c.loop-k.invariant.1,
       c.copy_page.ensures.head ∙ c.loop-k.invariant.2,
       c.copy_page.ensures.tied ∙ c.loop-k.invariant.3,

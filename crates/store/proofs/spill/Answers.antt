@@ -9,11 +9,11 @@ pub ring_end-p-requires : goal.ring_end-p-requires
 ring_end-p-requires g c = let k = c.requires.ready.follows.ok in
     record { long = length_next c.args.part.now c.requires.long; turn = k.turn; room = k.room }
 
-pub returns-in-err-write : goal.returns-in-err-write
-returns-in-err-write g c =
+pub returns-in_err-write : goal.returns-in_err-write
+returns-in_err-write g c =
     let p = err_from_is_err_and c.from-residual.result c.from-residual.ensures.1 in
     record {
-      spills = rw p.1 (spill_lost _ _ c.args.part.now _ _ c.requires.ready c.requires.room c.ring_end-p.ensures c.in-err-write.ensures.wrote);
+      spills = rw p.1 (spill_lost _ _ c.args.part.now _ _ c.requires.ready c.requires.room c.ring_end-p.ensures c.in_err-write.ensures.wrote);
       tied = c.write.ensures.tied;
     }
 
@@ -26,7 +26,7 @@ returns g c =
     let part = c.args.part.now in
     let l : length c.turn.new.head ≡ 512 = c.turn.auto.head ∙ length_next part c.requires.long in
     record {
-      spills = spilled _ _ part _ c.args.store.now _ c.requires.ready c.requires.brim c.requires.room c.ring_end-p.ensures c.in-ok-write.ensures.wrote
+      spills = spilled _ _ part _ c.args.store.now _ c.requires.ready c.requires.brim c.requires.room c.ring_end-p.ensures c.in_ok-write.ensures.wrote
           (ap head_of (put_next part c.requires.long c.turn.new.head l) ∙ c.turn.ensures) (put_frames part c.requires.long c.turn.new.head l);
       tied = c.write.ensures.tied;
     }

@@ -12,10 +12,10 @@ use Rattle.store.proofs.Cached.{batch_used}
 use Rattle.store.proofs.Batches.{over_sound, over_firm, over_cut, put_cut, put_done}
 use Rattle.store.proofs.take_batch.Goals as goal
 
-pub returns-in-err-make_last : goal.returns-in-err-make_last
-returns-in-err-make_last g c =
+pub returns-in_err-make_last : goal.returns-in_err-make_last
+returns-in_err-make_last g c =
     let p = err_from_is_err_and c.from-residual.result c.from-residual.ensures.1 in
-    let l = c.in-err-make_last.ensures.settles (next c.args.part.now) c.requires.intact.ready in
+    let l = c.in_err-make_last.ensures.settles (next c.args.part.now) c.requires.intact.ready in
     record { takes = rw p.1 (record { off = l.off; pages = l.pages; back = λ f b. let r = l.back f b in (r.0, inl r.1) }); tied = c.make_last.ensures.tied }
 
 pub take_over-requires : goal.take_over-requires
@@ -32,7 +32,7 @@ pub write_head-requires : goal.write_head-requires
 write_head-requires g c =
     let part = c.args.part.now in let i = c.requires.intact in
     let m = g.D.Device.medium c.args.d.now in let a = g.D.Device.medium c.make_last.new.d in
-    let x = c.in-ok-make_last.ensures.settles (next part) i.ready in
+    let x = c.in_ok-make_last.ensures.settles (next part) i.ready in
     let e = c.take_over.ensures.taken in
     record {
       kept = x.ready.kept;
@@ -42,22 +42,22 @@ write_head-requires g c =
       asks = omega (arith, c.requires.asks, x.left);
     }
 
-pub returns-in-err-write_head : goal.returns-in-err-write_head
-returns-in-err-write_head g c =
-    let p = err_from_is_err_and c.from-residual-in-err-write_head.result c.from-residual-in-err-write_head.ensures.1 in
+pub returns-in_err-write_head : goal.returns-in_err-write_head
+returns-in_err-write_head g c =
+    let p = err_from_is_err_and c.from-residual-in_err-write_head.result c.from-residual-in_err-write_head.ensures.1 in
     let part = c.args.part.now in let i = c.requires.intact in
     let m = g.D.Device.medium c.args.d.now in let a = g.D.Device.medium c.make_last.new.d in
-    let x = c.in-ok-make_last.ensures.settles (next part) i.ready in
+    let x = c.in_ok-make_last.ensures.settles (next part) i.ready in
     record {
-      takes = rw p.1 (over_cut m a part c.args.store.now c.make_last.new.store i c.requires.imaged c.requires.worked x _ (next c.take_over.new.part) c.take_over.ensures.taken c.in-err-write_head.ensures.moves);
+      takes = rw p.1 (over_cut m a part c.args.store.now c.make_last.new.store i c.requires.imaged c.requires.worked x _ (next c.take_over.new.part) c.take_over.ensures.taken c.in_err-write_head.ensures.moves);
       tied = c.write_head.ensures.tied ∙ c.make_last.ensures.tied;
     }
 
 pub install-requires : goal.install-requires
 install-requires g c =
     let part = c.args.part.now in let i = c.requires.intact in
-    let x = c.in-ok-make_last.ensures.settles (next part) i.ready in
-    let v = c.in-ok-write_head.ensures.moves in
+    let x = c.in_ok-make_last.ensures.settles (next part) i.ready in
+    let v = c.in_ok-write_head.ensures.moves in
     let e = c.take_over.ensures.frames in
     record {
       long = c.take_over.auto.part ∙ i.long;
@@ -67,16 +67,16 @@ install-requires g c =
       asks = omega (arith, c.requires.asks, x.left, v.left, ap (λ (f : List ℕ). (cache_of f).count) e);
     }
 
-pub returns-in-err-install : goal.returns-in-err-install
-returns-in-err-install g c =
-    let p = err_from_is_err_and c.from-residual-in-err-install.result c.from-residual-in-err-install.ensures.1 in
+pub returns-in_err-install : goal.returns-in_err-install
+returns-in_err-install g c =
+    let p = err_from_is_err_and c.from-residual-in_err-install.result c.from-residual-in_err-install.ensures.1 in
     let part = c.args.part.now in let i = c.requires.intact in
     let m = g.D.Device.medium c.args.d.now in let a = g.D.Device.medium c.make_last.new.d in
     let b = g.D.Device.medium c.write_head.new.d in let e = g.D.Device.medium c.install.new.d in
-    let x = c.in-ok-make_last.ensures.settles (next part) i.ready in
+    let x = c.in_ok-make_last.ensures.settles (next part) i.ready in
     record {
-      takes = rw p.1 (put_cut m a part c.args.store.now c.make_last.new.store i c.requires.imaged c.requires.worked x b e c.take_over.new.part false c.take_over.ensures.taken c.in-ok-write_head.ensures.moves
-          (subst (λ (f : List ℕ). WroteAll (cache_of f).count (cache_of f).count (batch_page (cache_of f)) (batch_words (cache_of f)) b false e) c.take_over.ensures.frames c.in-err-install.ensures.row) tt);
+      takes = rw p.1 (put_cut m a part c.args.store.now c.make_last.new.store i c.requires.imaged c.requires.worked x b e c.take_over.new.part false c.take_over.ensures.taken c.in_ok-write_head.ensures.moves
+          (subst (λ (f : List ℕ). WroteAll (cache_of f).count (cache_of f).count (batch_page (cache_of f)) (batch_words (cache_of f)) b false e) c.take_over.ensures.frames c.in_err-install.ensures.row) tt);
       tied = c.install.ensures.tied ∙ c.write_head.ensures.tied ∙ c.make_last.ensures.tied;
     }
 
@@ -88,14 +88,14 @@ returns g c =
     let part = c.args.part.now in let i = c.requires.intact in let mid = c.take_over.new.part in
     let m = g.D.Device.medium c.args.d.now in let a = g.D.Device.medium c.make_last.new.d in
     let b = g.D.Device.medium c.write_head.new.d in let e = g.D.Device.medium c.install.new.d in
-    let x = c.in-ok-make_last.ensures.settles (next part) i.ready in
+    let x = c.in_ok-make_last.ensures.settles (next part) i.ready in
     let long : length c.take_over.new.part ≡ 62976 = c.take_over.auto.part ∙ i.long in
     let w = c.settle.new.part in
     let k : length c.settle.new.part ≡ 61952 = c.settle.auto.part ∙ length_frames mid long in
     let f = frames_frames mid long w k in
     record {
-      takes = put_done m a part c.args.store.now c.make_last.new.store i c.requires.imaged c.requires.worked x b e mid true c.take_over.ensures.taken c.in-ok-write_head.ensures.moves
-          (subst (λ (f : List ℕ). WroteAll (cache_of f).count (cache_of f).count (batch_page (cache_of f)) (batch_words (cache_of f)) b true e) c.take_over.ensures.frames c.in-ok-install.ensures.row) tt
+      takes = put_done m a part c.args.store.now c.make_last.new.store i c.requires.imaged c.requires.worked x b e mid true c.take_over.ensures.taken c.in_ok-write_head.ensures.moves
+          (subst (λ (f : List ℕ). WroteAll (cache_of f).count (cache_of f).count (batch_page (cache_of f)) (batch_words (cache_of f)) b true e) c.take_over.ensures.frames c.in_ok-install.ensures.row) tt
           _ c.take_over.ensures.frames (frames_next mid long w k) (frames_long mid long w k) (subst Framed (sym f) c.settle.ensures.sound) (ap cache_of f ∙ c.settle.ensures.cache)
           (λ u v y. ap (λ (z : List ℕ). shown_by (cache_of z) v) f ∙ c.settle.ensures.shown u v y) (λ u v y l. subst (λ (z : List ℕ). Clean (cache_of z) v) (sym f) (c.settle.ensures.clean u v y l));
       tied = c.install.ensures.tied ∙ c.write_head.ensures.tied ∙ c.make_last.ensures.tied;

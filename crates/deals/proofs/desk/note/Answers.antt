@@ -8,7 +8,7 @@ use Rattle.deals.specs.declared.Op.{Op}
 use Rattle.deals.specs.Rows.{gone_by, line_for, bare}
 use Rattle.deals.proofs.Backs.{gone_none, gone_back, bare_push, ring_is}
 use Rattle.deals.proofs.desk.note.Goals as goal
-use Rattle.deals.proofs.desk.note.Goals.{in-Back, in-default}
+use Rattle.deals.proofs.desk.note.Goals.{in-Back, in_default}
 
 -- the op, and the lines before the push
 went : (c : goal.After-slice_known-2·1) → (c.match-o.o ≡ c.args.o) × (lines_of c.match-o.words (deal_ring c.args.n) ≡ gone_by c.args.o (lines_of c.args.words.now (deal_ring c.args.n)))
@@ -21,7 +21,7 @@ went c =
         ap (λ (x : List ℕ). lines_of x r) w.words-is ∙ ap (lines_of w.go_back.new.words) (sym w.deal_ring.ensures) ∙ w.go_back.ensures.lines
             ∙ ap (λ (x : Ring). backed (w.in-Back.j + 1) (lines_of c.args.words.now x)) w.deal_ring.ensures ∙ sym (gone_back c.args.o w.in-Back.j ls w.in-Back.is),
       )
-      | in-default w ↦ (w.o-is, ap (λ (x : List ℕ). lines_of x r) w.words-is ∙ sym (gone_none c.args.o ls w.in-default.not-Back))
+      | in_default w ↦ (w.o-is, ap (λ (x : List ℕ). lines_of x r) w.words-is ∙ sym (gone_none c.args.o ls w.in_default.not-Back))
     ]
 
 pub returns : goal.returns

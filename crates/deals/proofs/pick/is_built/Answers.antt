@@ -27,5 +27,5 @@ pub returns-in-Back : goal.returns-in-Back
 unfolding core
 returns-in-Back c = sym (ap core c.in-Back.is)
 
-pub returns-in-default : goal.returns-in-default
-returns-in-default c = other c.args.o c.in-default.not-Next c.in-default.not-Mark c.in-default.not-Back
+pub returns-in_default : goal.returns-in_default
+returns-in_default c = other c.args.o c.in_default.not-Next c.in_default.not-Mark c.in_default.not-Back

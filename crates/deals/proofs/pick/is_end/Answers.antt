@@ -23,5 +23,5 @@ pub returns-in-Undo : goal.returns-in-Undo
 unfolding ends
 returns-in-Undo c = sym (ap ends c.in-Undo.is)
 
-pub returns-in-default : goal.returns-in-default
-returns-in-default c = other c.args.o c.in-default.not-Commit c.in-default.not-Undo
+pub returns-in_default : goal.returns-in_default
+returns-in_default c = other c.args.o c.in_default.not-Commit c.in_default.not-Undo

@@ -10,10 +10,10 @@ use Rattle.deals.proofs.pick.scan_from.Goals as goal
 pub returns-in-Next : goal.returns-in-Next
 returns-in-Next c = sym c.in-Next.ensures
 
-pub returns-in-default : goal.returns-in-default
-returns-in-default c s f d h =
+pub returns-in_default : goal.returns-in_default
+returns-in_default c s f d h =
     let o = op_at c.args.room.now c.args.c in
-    finds_any o (told o (s.clerk c.args.c).deal s.book) f (λ k e. c.in-default.not-Next k (c.read_op-o.ensures ∙ e))
+    finds_any o (told o (s.clerk c.args.c).deal s.book) f (λ k e. c.in_default.not-Next k (c.read_op-o.ensures ∙ e))
 
 pub returns-then-not-comes_to : goal.returns-then-not-comes_to
 returns-then-not-comes_to c s f d h =

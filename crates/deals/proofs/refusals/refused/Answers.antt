@@ -36,10 +36,10 @@ returns-else-has_mark c s d =
     (comes_by can r s who c.read_op-o.result true keeps c.read_op-o.ensures c.if-not-comes_to.ensures)
     (sym c.in-Back.ensures) (λ b. table_marks r who (s.clerk who).deal b keeps) (sym c.if-has_mark.ensures)
 
-pub returns-in-default : goal.returns-in-default
-returns-in-default c s d =
+pub returns-in_default : goal.returns-in_default
+returns-in_default c s d =
     let r = c.args.room.now in
     let who = c.args.c in
     refuses_none can (op_at r who) (s.clerk who).deal
     (comes_by can r s who c.read_op-o.result true (d who c.requires.1) c.read_op-o.ensures c.if-not-comes_to.ensures)
-    (λ j e. c.in-default.not-Back j (c.read_op-o.ensures ∙ e))
+    (λ j e. c.in_default.not-Back j (c.read_op-o.ensures ∙ e))

@@ -8,8 +8,8 @@ use Rattle.node.proofs.search.way_to.Goals.{then-i-n, else-i-n}
 pub upper-i-requires : goal.upper-i-requires
 upper-i-requires c = (c.requires.is, inner_rises c.args.page.now c.args.k c.requires)
 
-pub overflow-sub-result : goal.overflow-sub-result
-overflow-sub-result c = not_first c.args.page.now c.args.k c.upper-i.result c.requires c.upper-i.ensures
+pub overflow_sub-result : goal.overflow_sub-result
+overflow_sub-result c = not_first c.args.page.now c.args.k c.upper-i.result c.requires c.upper-i.ensures
 
 pub returns : goal.returns
 returns c =

@@ -6,6 +6,6 @@ pub returns : goal.returns
 unfolding head_of
 returns c = refl
 
-pub overflow-add-result : goal.overflow-add-result
+pub overflow_add-result : goal.overflow_add-result
 unfolding head_of
-overflow-add-result c = omega (arith, c.requires.turn, c.requires.room)
+overflow_add-result c = omega (arith, c.requires.turn, c.requires.room)

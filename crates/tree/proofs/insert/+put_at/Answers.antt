@@ -48,26 +48,26 @@ pub put_at-requires : goal.put_at-requires
 put_at-requires g t c κs within =
     let d = g.S.PageStore.state c.args.s.now in let e = g.S.PageStore.state c.find_way.new.s in
     let n : 0 < c.args.l = omega (arith, c.if-l-eq0.false) in
-    let w = c.in-ok-w.ensures.got in
-    let b = below d e c.args.l (c.args.l - 1) c.args.p c.in-ok-w.w.down c.args.k c.in-ok-w.w.at (omega arith) w.3 c.requires.asks.0 c.requires.asks.1.0 w.0 w.1 in
+    let w = c.in_ok-w.ensures.got in
+    let b = below d e c.args.l (c.args.l - 1) c.args.p c.in_ok-w.w.down c.args.k c.in_ok-w.w.at (omega arith) w.3 c.requires.asks.0 c.requires.asks.1.0 w.0 w.1 in
     (omega (arith, c.decreases), (within, (b.asks, (b.mine, (once_still 1 d e w.3 c.requires.asks.1.1.0, (omega (arith, w.3.left, c.requires.asks.1.1.1.0), (omega (arith, w.3.room, c.requires.asks.1.1.1.1), (omega (arith, w.3.spare, c.requires.budget), search rules))))))))
 
-pub overflow-add-w : goal.overflow-add-w
-overflow-add-w g t c =
+pub overflow_add-w : goal.overflow_add-w
+overflow_add-w g t c =
     let d = g.S.PageStore.state c.args.s.now in
     let n : 0 < c.args.l = omega (arith, c.if-l-eq0.false) in
     let a = asks_inner d c.args.l c.args.p c.args.k n c.requires.asks.0 in
-    omega (arith, c.in-ok-w.ensures.got.0.here, pairs_length (d.page c.args.p) a.is, a.is.1)
+    omega (arith, c.in_ok-w.ensures.got.0.here, pairs_length (d.page c.args.p) a.is, a.is.1)
 
 pub enter-requires : goal.enter-requires
 enter-requires g t c =
     record {
       asks = (let d = g.S.PageStore.state c.args.s.now in let d1 = g.S.PageStore.state c.find_way.new.s in let e1 = g.S.PageStore.state c.put_at.new.s in
           let n : 0 < c.args.l = omega (arith, c.if-l-eq0.false) in
-          let w = c.in-ok-w.ensures.got in let r = c.in-ok-t.ensures.got in
-          let m = inner_more d d1 e1 e1 c.args.l (c.args.l - 1) c.args.p c.in-ok-w.w.down c.args.k c.args.x c.in-ok-w.w.at (3 * (c.args.l - 1) + 3) (3 * c.args.l + 3) c.in-ok-t.t.more None (c.in-Some.key, c.in-Some.q) (omega arith) (omega arith) c.in-Some.is w.3 c.requires.asks.0 c.requires.asks.1.0 c.requires.asks.1.1.0 w.0 w.1 r.0 in
+          let w = c.in_ok-w.ensures.got in let r = c.in_ok-t.ensures.got in
+          let m = inner_more d d1 e1 e1 c.args.l (c.args.l - 1) c.args.p c.in_ok-w.w.down c.args.k c.args.x c.in_ok-w.w.at (3 * (c.args.l - 1) + 3) (3 * c.args.l + 3) c.in_ok-t.t.more None (c.in-Some.key, c.in-Some.q) (omega arith) (omega arith) c.in-Some.is w.3 c.requires.asks.0 c.requires.asks.1.0 c.requires.asks.1.1.0 w.0 w.1 r.0 in
           (m.0.0, (m.0.1, (m.0.2, (omega (arith, r.0.left, w.3.left, c.requires.asks.1.1.1.0), omega (arith, r.0.room, w.3.room, c.requires.asks.1.1.1.1))))));
-      budget = omega (arith, c.in-ok-t.ensures.got.0.spends.spare, c.in-ok-w.ensures.got.3.spare, c.requires.budget, c.if-l-eq0.false);
+      budget = omega (arith, c.in_ok-t.ensures.got.0.spends.spare, c.in_ok-w.ensures.got.3.spare, c.requires.budget, c.if-l-eq0.false);
       whole = search rules;
     }
 
@@ -76,10 +76,10 @@ returns-in-Some g t c =
     record {
       got = (let d = g.S.PageStore.state c.args.s.now in let d1 = g.S.PageStore.state c.find_way.new.s in let e1 = g.S.PageStore.state c.put_at.new.s in let e = g.S.PageStore.state c.enter.new.s in
           let n : 0 < c.args.l = omega (arith, c.if-l-eq0.false) in
-          let w = c.in-ok-w.ensures.got in let r = c.in-ok-t.ensures.got in
-          let m = inner_more d d1 e1 e c.args.l (c.args.l - 1) c.args.p c.in-ok-w.w.down c.args.k c.args.x c.in-ok-w.w.at (3 * (c.args.l - 1) + 3) (3 * c.args.l + 3) c.in-ok-t.t.more c.in-ok-more.more (c.in-Some.key, c.in-Some.q) (omega arith) (omega arith) c.in-Some.is w.3 c.requires.asks.0 c.requires.asks.1.0 c.requires.asks.1.1.0 w.0 w.1 r.0 in
-          let b = below d d1 c.args.l (c.args.l - 1) c.args.p c.in-ok-w.w.down c.args.k c.in-ok-w.w.at (omega arith) w.3 c.requires.asks.0 c.requires.asks.1.0 w.0 w.1 in
-          (m.1 c.in-ok-more.ensures.got, r.1 ∙ ap (λ o. not (is_some o)) (sym b.finds)));
+          let w = c.in_ok-w.ensures.got in let r = c.in_ok-t.ensures.got in
+          let m = inner_more d d1 e1 e c.args.l (c.args.l - 1) c.args.p c.in_ok-w.w.down c.args.k c.args.x c.in_ok-w.w.at (3 * (c.args.l - 1) + 3) (3 * c.args.l + 3) c.in_ok-t.t.more c.in_ok-more.more (c.in-Some.key, c.in-Some.q) (omega arith) (omega arith) c.in-Some.is w.3 c.requires.asks.0 c.requires.asks.1.0 c.requires.asks.1.1.0 w.0 w.1 r.0 in
+          let b = below d d1 c.args.l (c.args.l - 1) c.args.p c.in_ok-w.w.down c.args.k c.in_ok-w.w.at (omega arith) w.3 c.requires.asks.0 c.requires.asks.1.0 w.0 w.1 in
+          (m.1 c.in_ok-more.ensures.got, r.1 ∙ ap (λ o. not (is_some o)) (sym b.finds)));
       onto = search rules;
       tied = search rules;
     }
@@ -89,9 +89,9 @@ returns g t c =
     record {
       got = (let d = g.S.PageStore.state c.args.s.now in let d1 = g.S.PageStore.state c.find_way.new.s in let e1 = g.S.PageStore.state c.put_at.new.s in
           let n : 0 < c.args.l = omega (arith, c.if-l-eq0.false) in
-          let w = c.in-ok-w.ensures.got in let r = c.in-ok-t.ensures.got in
-          let b = below d d1 c.args.l (c.args.l - 1) c.args.p c.in-ok-w.w.down c.args.k c.in-ok-w.w.at (omega arith) w.3 c.requires.asks.0 c.requires.asks.1.0 w.0 w.1 in (
-            inner_same d d1 e1 c.args.l (c.args.l - 1) c.args.p c.in-ok-w.w.down c.args.k c.args.x c.in-ok-w.w.at (3 * (c.args.l - 1) + 3) (3 * c.args.l + 3) c.in-ok-t.t.more (omega arith) (omega arith) c.in-default.is w.3 c.requires.asks.0 c.requires.asks.1.0 c.requires.asks.1.1.0 w.0 w.1 r.0,
+          let w = c.in_ok-w.ensures.got in let r = c.in_ok-t.ensures.got in
+          let b = below d d1 c.args.l (c.args.l - 1) c.args.p c.in_ok-w.w.down c.args.k c.in_ok-w.w.at (omega arith) w.3 c.requires.asks.0 c.requires.asks.1.0 w.0 w.1 in (
+            inner_same d d1 e1 c.args.l (c.args.l - 1) c.args.p c.in_ok-w.w.down c.args.k c.args.x c.in_ok-w.w.at (3 * (c.args.l - 1) + 3) (3 * c.args.l + 3) c.in_ok-t.t.more (omega arith) (omega arith) c.in_default.is w.3 c.requires.asks.0 c.requires.asks.1.0 c.requires.asks.1.1.0 w.0 w.1 r.0,
             r.1 ∙ ap (λ o. not (is_some o)) (sym b.finds),
           ));
       onto = search rules;

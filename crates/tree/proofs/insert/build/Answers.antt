@@ -7,8 +7,8 @@ pub returns : goal.returns
 returns g c =
     let st = g.S.PageStore.state in
     record {
-      got = built_one (st c.args.s.now) (st c.alloc.new.self) (st c.write.new.self) c.in-ok-p.p c.args.l c.begin.new.page (rows c.args.k c.args.x c.args.more)
-          c.in-ok-p.ensures.got c.in-ok-write.ensures.got c.begin.ensures;
+      got = built_one (st c.args.s.now) (st c.alloc.new.self) (st c.write.new.self) c.in_ok-p.p c.args.l c.begin.new.page (rows c.args.k c.args.x c.args.more)
+          c.in_ok-p.ensures.got c.in_ok-write.ensures.got c.begin.ensures;
       onto = search rules;
       tied = search rules;
     }

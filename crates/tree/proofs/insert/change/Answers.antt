@@ -10,7 +10,7 @@ returns g c =
     record {
       got = IfOk-weaker c.write.result _ _ (λ o h. entered_one (st c.args.s.now) (st c.read.new.self) (st c.write.new.self) c.args.p c.read.new.into c.set_word.new.page
           (λ b. set (pairs_of b) c.args.i ((get_or (pairs_of b) c.args.i (0, 0)).0, c.args.x))
-          c.in-ok-read.ensures.got.0 c.in-ok-read.ensures.got.1 h c.set_word.ensures) c.write.ensures.got;
+          c.in_ok-read.ensures.got.0 c.in_ok-read.ensures.got.1 h c.set_word.ensures) c.write.ensures.got;
       onto = search rules;
       tied = search rules;
     }

@@ -49,20 +49,20 @@ pub drop_at-requires : goal.drop_at-requires
 drop_at-requires g t c κs within =
     let d = g.S.PageStore.state c.args.s.now in let e = g.S.PageStore.state c.find_way.new.s in
     let n : 0 < c.args.l = omega (arith, c.if-l-eq0.false) in
-    let w = c.in-ok-w.ensures.got in
-    let b = below d e c.args.l (c.args.l - 1) c.args.p c.in-ok-w.w.down c.args.k c.in-ok-w.w.at (omega arith) w.3 c.requires.asks.0 c.requires.asks.1.0 w.0 w.1 in
-    (omega (arith, c.decreases), (within, (b.asks, (b.mine, (once_still 1 d e w.3 c.requires.asks.1.1.0, (kid_wide d e c.args.l (c.args.l - 1) c.args.p c.in-ok-w.w.down c.args.k c.in-ok-w.w.at (omega arith) w.3 c.requires.asks.0 w.0 w.1, (omega (arith, w.3.left, c.requires.asks.1.1.1.1), (omega (arith, w.3.spare, c.requires.budget), search rules))))))))
+    let w = c.in_ok-w.ensures.got in
+    let b = below d e c.args.l (c.args.l - 1) c.args.p c.in_ok-w.w.down c.args.k c.in_ok-w.w.at (omega arith) w.3 c.requires.asks.0 c.requires.asks.1.0 w.0 w.1 in
+    (omega (arith, c.decreases), (within, (b.asks, (b.mine, (once_still 1 d e w.3 c.requires.asks.1.1.0, (kid_wide d e c.args.l (c.args.l - 1) c.args.p c.in_ok-w.w.down c.args.k c.in_ok-w.w.at (omega arith) w.3 c.requires.asks.0 w.0 w.1, (omega (arith, w.3.left, c.requires.asks.1.1.1.1), (omega (arith, w.3.spare, c.requires.budget), search rules))))))))
 
 pub mend-requires : goal.mend-requires
 mend-requires g t c =
     record {
       asks = (let d = g.S.PageStore.state c.args.s.now in let d1 = g.S.PageStore.state c.find_way.new.s in let e1 = g.S.PageStore.state c.drop_at.new.s in
           let n : 0 < c.args.l = omega (arith, c.if-l-eq0.false) in
-          let w = c.in-ok-w.ensures.got in let r = c.in-ok-t.ensures.got in (
-            thin_mends d d1 e1 c.args.l (c.args.l - 1) c.args.p c.in-ok-w.w.down c.args.k c.in-ok-w.w.at c.saturating_sub.result (4 * (c.args.l - 1) + 1) c.in-ok-t.t.thin (omega arith) c.if-t.true w.3 c.requires.asks.0 c.requires.asks.1.0 c.requires.asks.1.1.0 w.0 w.1 r.0 c.saturating_sub.ensures (c.requires.asks.1.1.1.0 n),
+          let w = c.in_ok-w.ensures.got in let r = c.in_ok-t.ensures.got in (
+            thin_mends d d1 e1 c.args.l (c.args.l - 1) c.args.p c.in_ok-w.w.down c.args.k c.in_ok-w.w.at c.saturating_sub.result (4 * (c.args.l - 1) + 1) c.in_ok-t.t.thin (omega arith) c.if-t.true w.3 c.requires.asks.0 c.requires.asks.1.0 c.requires.asks.1.1.0 w.0 w.1 r.0 c.saturating_sub.ensures (c.requires.asks.1.1.1.0 n),
             omega (arith, r.0.left, w.3.left, c.requires.asks.1.1.1.1),
           ));
-      budget = omega (arith, c.in-ok-t.ensures.got.0.spends.spare, c.in-ok-w.ensures.got.3.spare, c.requires.budget, c.if-l-eq0.false);
+      budget = omega (arith, c.in_ok-t.ensures.got.0.spends.spare, c.in_ok-w.ensures.got.3.spare, c.requires.budget, c.if-l-eq0.false);
       whole = search rules;
     }
 
@@ -71,9 +71,9 @@ returns-then-t g t c =
     record {
       got = (let d = g.S.PageStore.state c.args.s.now in let d1 = g.S.PageStore.state c.find_way.new.s in let e1 = g.S.PageStore.state c.drop_at.new.s in let e = g.S.PageStore.state c.mend.new.s in
           let n : 0 < c.args.l = omega (arith, c.if-l-eq0.false) in
-          let w = c.in-ok-w.ensures.got in let r = c.in-ok-t.ensures.got in
-          let b = below d d1 c.args.l (c.args.l - 1) c.args.p c.in-ok-w.w.down c.args.k c.in-ok-w.w.at (omega arith) w.3 c.requires.asks.0 c.requires.asks.1.0 w.0 w.1 in (
-            thin_mended d d1 e1 e c.args.l (c.args.l - 1) c.args.p c.in-ok-w.w.down c.args.k c.in-ok-w.w.at c.saturating_sub.result (4 * (c.args.l - 1) + 1) 3 (4 * c.args.l + 1) c.in-ok-t.t.thin c.in-ok-thin.thin (omega arith) (omega arith) c.if-t.true w.3 c.requires.asks.0 c.requires.asks.1.0 c.requires.asks.1.1.0 w.0 w.1 r.0 c.saturating_sub.ensures (c.requires.asks.1.1.1.0 n) c.in-ok-thin.ensures.got,
+          let w = c.in_ok-w.ensures.got in let r = c.in_ok-t.ensures.got in
+          let b = below d d1 c.args.l (c.args.l - 1) c.args.p c.in_ok-w.w.down c.args.k c.in_ok-w.w.at (omega arith) w.3 c.requires.asks.0 c.requires.asks.1.0 w.0 w.1 in (
+            thin_mended d d1 e1 e c.args.l (c.args.l - 1) c.args.p c.in_ok-w.w.down c.args.k c.in_ok-w.w.at c.saturating_sub.result (4 * (c.args.l - 1) + 1) 3 (4 * c.args.l + 1) c.in_ok-t.t.thin c.in_ok-thin.thin (omega arith) (omega arith) c.if-t.true w.3 c.requires.asks.0 c.requires.asks.1.0 c.requires.asks.1.1.0 w.0 w.1 r.0 c.saturating_sub.ensures (c.requires.asks.1.1.1.0 n) c.in_ok-thin.ensures.got,
             r.1 ∙ ap (λ o. is_some o) (sym b.finds),
           ));
       onto = search rules;
@@ -85,9 +85,9 @@ returns g t c =
     record {
       got = (let d = g.S.PageStore.state c.args.s.now in let d1 = g.S.PageStore.state c.find_way.new.s in let e1 = g.S.PageStore.state c.drop_at.new.s in
           let n : 0 < c.args.l = omega (arith, c.if-l-eq0.false) in
-          let w = c.in-ok-w.ensures.got in let r = c.in-ok-t.ensures.got in
-          let b = below d d1 c.args.l (c.args.l - 1) c.args.p c.in-ok-w.w.down c.args.k c.in-ok-w.w.at (omega arith) w.3 c.requires.asks.0 c.requires.asks.1.0 w.0 w.1 in (
-            not_thin d d1 e1 c.args.l (c.args.l - 1) c.args.p c.in-ok-w.w.down c.args.k c.in-ok-w.w.at (4 * (c.args.l - 1) + 1) (4 * c.args.l + 1) c.in-ok-t.t.thin (omega arith) (omega arith) c.if-t.false w.3 c.requires.asks.0 c.requires.asks.1.0 c.requires.asks.1.1.0 w.0 w.1 r.0,
+          let w = c.in_ok-w.ensures.got in let r = c.in_ok-t.ensures.got in
+          let b = below d d1 c.args.l (c.args.l - 1) c.args.p c.in_ok-w.w.down c.args.k c.in_ok-w.w.at (omega arith) w.3 c.requires.asks.0 c.requires.asks.1.0 w.0 w.1 in (
+            not_thin d d1 e1 c.args.l (c.args.l - 1) c.args.p c.in_ok-w.w.down c.args.k c.in_ok-w.w.at (4 * (c.args.l - 1) + 1) (4 * c.args.l + 1) c.in_ok-t.t.thin (omega arith) (omega arith) c.if-t.false w.3 c.requires.asks.0 c.requires.asks.1.0 c.requires.asks.1.1.0 w.0 w.1 r.0,
             r.1 ∙ ap (λ o. is_some o) (sym b.finds),
           ));
       onto = search rules;

@@ -28,14 +28,14 @@ crown-requires g c =
     record {
       asks = (let d = g.S.PageStore.state c.args.s.now in let e1 = g.S.PageStore.state c.drop_at.new.s in
           let n : 0 < c.args.height = omega (arith, c.if-height-eq0.false) in
-          let r = c.in-ok-t.ensures.got in (
-            worn (4 * (c.args.height - 1) + 1) d e1 c.args.height (c.args.height - 1) c.args.root c.args.k c.in-ok-t.t.thin (omega arith) c.if-t.true c.ranges.k.fits c.requires.asks.0 r.0,
+          let r = c.in_ok-t.ensures.got in (
+            worn (4 * (c.args.height - 1) + 1) d e1 c.args.height (c.args.height - 1) c.args.root c.args.k c.in_ok-t.t.thin (omega arith) c.if-t.true c.ranges.k.fits c.requires.asks.0 r.0,
             (
-              once_shrunk (4 * (c.args.height - 1) + 1) d e1 (c.args.height - 1) c.args.root c.args.k c.in-ok-t.t.thin c.requires.asks.1.0 r.0,
+              once_shrunk (4 * (c.args.height - 1) + 1) d e1 (c.args.height - 1) c.args.root c.args.k c.in_ok-t.t.thin c.requires.asks.1.0 r.0,
               omega (arith, r.0.left, c.requires.asks.1.1),
             ),
           ));
-      budget = omega (arith, c.in-ok-t.ensures.got.0.spends.spare, c.requires.budget, c.if-height-eq0.false);
+      budget = omega (arith, c.in_ok-t.ensures.got.0.spends.spare, c.requires.budget, c.if-height-eq0.false);
       whole = search rules;
     }
 
@@ -44,9 +44,9 @@ returns-then-t g c =
     record {
       got = (let d = g.S.PageStore.state c.args.s.now in let e1 = g.S.PageStore.state c.drop_at.new.s in let e = g.S.PageStore.state c.crown.new.s in
           let n : 0 < c.args.height = omega (arith, c.if-height-eq0.false) in
-          let r = c.in-ok-t.ensures.got in
+          let r = c.in_ok-t.ensures.got in
           let a = sound_asks d c.args.height (c.args.height - 1) c.args.root c.args.k (omega arith) c.ranges.k.fits c.requires.asks.0 in (
-            new_root (4 * (c.args.height - 1) + 1) d e1 e c.args.height (c.args.height - 1) c.args.root c.args.k c.in-ok-r.h c.in-ok-r.r c.in-ok-t.t.thin (omega arith) (omega arith) a.1 r.0 c.in-ok-r.ensures.got,
+            new_root (4 * (c.args.height - 1) + 1) d e1 e c.args.height (c.args.height - 1) c.args.root c.args.k c.in_ok-r.h c.in_ok-r.r c.in_ok-t.t.thin (omega arith) (omega arith) a.1 r.0 c.in_ok-r.ensures.got,
             r.1 ∙ ap (λ es. is_some (find c.args.k es)) (sym (tree_some d.page c.args.height (c.args.height - 1) c.args.root (omega arith))),
           ));
       onto = search rules;
@@ -58,8 +58,8 @@ returns g c =
     record {
       got = (let d = g.S.PageStore.state c.args.s.now in let e1 = g.S.PageStore.state c.drop_at.new.s in
           let n : 0 < c.args.height = omega (arith, c.if-height-eq0.false) in
-          let r = c.in-ok-t.ensures.got in (
-            kept_root (4 * (c.args.height - 1) + 1) d e1 c.args.height (c.args.height - 1) c.args.root c.args.k c.in-ok-t.t.thin (omega arith) c.if-t.false (omega arith) c.ranges.k.fits c.requires.asks.0 c.requires.asks.1.0 r.0,
+          let r = c.in_ok-t.ensures.got in (
+            kept_root (4 * (c.args.height - 1) + 1) d e1 c.args.height (c.args.height - 1) c.args.root c.args.k c.in_ok-t.t.thin (omega arith) c.if-t.false (omega arith) c.ranges.k.fits c.requires.asks.0 c.requires.asks.1.0 r.0,
             r.1 ∙ ap (λ es. is_some (find c.args.k es)) (sym (tree_some d.page c.args.height (c.args.height - 1) c.args.root (omega arith))),
           ));
       onto = search rules;

@@ -19,7 +19,7 @@ pub returns-then-l-eq0 : goal.returns-then-l-eq0
 returns-then-l-eq0 g t c =
     record {
       got = (let d = g.S.PageStore.state c.args.s.now in
-          (ap Some c.in-ok-e.ensures.got.0 ∙ sym (first_leaf d c.args.l c.args.p c.requires.asks.0.0 c.if-l-eq0.true c.requires.asks.0.1), still_more 1 (c.args.l + 1) d _ (omega arith) c.in-ok-e.ensures.got.1));
+          (ap Some c.in_ok-e.ensures.got.0 ∙ sym (first_leaf d c.args.l c.args.p c.requires.asks.0.0 c.if-l-eq0.true c.requires.asks.0.1), still_more 1 (c.args.l + 1) d _ (omega arith) c.in_ok-e.ensures.got.1));
       onto = search rules;
       tied = search rules;
     }
@@ -28,11 +28,11 @@ pub first_at-requires : goal.first_at-requires
 first_at-requires g t c κs within =
     let d = g.S.PageStore.state c.args.s.now in let e = g.S.PageStore.state c.head.new.s in
     let n : 0 < c.args.l = omega (arith, c.if-l-eq0.false) in
-    let w = c.in-ok-e.ensures.got in
+    let w = c.in_ok-e.ensures.got in
     let x = asks_node d c.args.l c.args.p c.requires.asks.0.0 c.requires.asks.0.1 in
     let h : 0 < length (pairs_of (d.page c.args.p)) = omega (arith, pairs_length (d.page c.args.p) x.0, x.1) in
-    let r = kid_asks d c.args.l (c.args.l - 1) c.args.p c.in-ok-e.e.1 0 c.requires.asks.0.0 (omega arith) c.requires.asks.0.1 c.requires.asks.1.0 h (ap (λ y. y.1) w.0) in
-    let a = asks_still 1 d e (c.args.l - 1) c.in-ok-e.e.1 w.1 (r.0, r.1) in
+    let r = kid_asks d c.args.l (c.args.l - 1) c.args.p c.in_ok-e.e.1 0 c.requires.asks.0.0 (omega arith) c.requires.asks.0.1 c.requires.asks.1.0 h (ap (λ y. y.1) w.0) in
+    let a = asks_still 1 d e (c.args.l - 1) c.in_ok-e.e.1 w.1 (r.0, r.1) in
     (omega (arith, c.decreases), (within, (a.0, (a.1, (omega (arith, w.1.left, c.requires.asks.1.1), search rules)))))
 
 pub returns : goal.returns
@@ -40,9 +40,9 @@ returns g t c =
     record {
       got = (let d = g.S.PageStore.state c.args.s.now in let e = g.S.PageStore.state c.head.new.s in
           let n : 0 < c.args.l = omega (arith, c.if-l-eq0.false) in
-          let w = c.in-ok-e.ensures.got in
-          let f = first_inner d c.args.l (c.args.l - 1) c.args.p c.in-ok-e.e.1 c.requires.asks.0.0 (omega arith) c.requires.asks.0.1 c.requires.asks.1.0 (ap (λ y. y.1) w.0) in
-          IfOk-weaker c.first_at.result _ _ (λ o h. (h.0 ∙ ap (λ (v : ℕ → List ℕ). first (pairs_at v (c.args.l - 1) c.in-ok-e.e.1)) w.1.page ∙ sym f, still_on 1 (c.args.l - 1 + 1) (c.args.l + 1) d e _ (omega arith) w.1 h.1)) c.first_at.ensures.got);
+          let w = c.in_ok-e.ensures.got in
+          let f = first_inner d c.args.l (c.args.l - 1) c.args.p c.in_ok-e.e.1 c.requires.asks.0.0 (omega arith) c.requires.asks.0.1 c.requires.asks.1.0 (ap (λ y. y.1) w.0) in
+          IfOk-weaker c.first_at.result _ _ (λ o h. (h.0 ∙ ap (λ (v : ℕ → List ℕ). first (pairs_at v (c.args.l - 1) c.in_ok-e.e.1)) w.1.page ∙ sym f, still_on 1 (c.args.l - 1 + 1) (c.args.l + 1) d e _ (omega arith) w.1 h.1)) c.first_at.ensures.got);
       onto = search rules;
       tied = search rules;
     }

@@ -34,8 +34,8 @@ pub get_at-requires : goal.get_at-requires
 get_at-requires g t c κs within =
     let d = g.S.PageStore.state c.args.s.now in let e = g.S.PageStore.state c.find_way.new.s in
     let n : 0 < c.args.l = omega (arith, c.if-l-eq0.false) in
-    let w = c.in-ok-w.ensures.got in
-    let b = below d e c.args.l (c.args.l - 1) c.args.p c.in-ok-w.w.down c.args.k c.in-ok-w.w.at (omega arith) w.3 c.requires.asks.0 c.requires.asks.1.0 w.0 w.1 in
+    let w = c.in_ok-w.ensures.got in
+    let b = below d e c.args.l (c.args.l - 1) c.args.p c.in_ok-w.w.down c.args.k c.in_ok-w.w.at (omega arith) w.3 c.requires.asks.0 c.requires.asks.1.0 w.0 w.1 in
     (omega (arith, c.decreases), (within, (b.asks, (b.mine, (omega (arith, w.3.left, c.requires.asks.1.1), search rules)))))
 
 pub returns : goal.returns
@@ -43,8 +43,8 @@ returns g t c =
     record {
       got = (let d = g.S.PageStore.state c.args.s.now in let e = g.S.PageStore.state c.find_way.new.s in
           let n : 0 < c.args.l = omega (arith, c.if-l-eq0.false) in
-          let w = c.in-ok-w.ensures.got in
-          let b = below d e c.args.l (c.args.l - 1) c.args.p c.in-ok-w.w.down c.args.k c.in-ok-w.w.at (omega arith) w.3 c.requires.asks.0 c.requires.asks.1.0 w.0 w.1 in
+          let w = c.in_ok-w.ensures.got in
+          let b = below d e c.args.l (c.args.l - 1) c.args.p c.in_ok-w.w.down c.args.k c.in_ok-w.w.at (omega arith) w.3 c.requires.asks.0 c.requires.asks.1.0 w.0 w.1 in
           IfOk-weaker c.get_at.result _ _ (λ o h. (h.0 ∙ sym b.finds, still_on 1 (c.args.l - 1 + 1) (c.args.l + 1) d e _ (omega arith) w.3 h.1)) c.get_at.ensures.got);
       onto = search rules;
       tied = search rules;

@@ -35,8 +35,8 @@ pub next_at-requires : goal.next_at-requires
 next_at-requires g t c κs within =
     let d = g.S.PageStore.state c.args.s.now in let e = g.S.PageStore.state c.find_way.new.s in
     let n : 0 < c.args.l = omega (arith, c.if-l-eq0.false) in
-    let w = c.in-ok-w.ensures.got in
-    let b = below d e c.args.l (c.args.l - 1) c.args.p c.in-ok-w.w.down c.args.k c.in-ok-w.w.at (omega arith) w.3 c.requires.asks.0 c.requires.asks.1.0 w.0 w.1 in
+    let w = c.in_ok-w.ensures.got in
+    let b = below d e c.args.l (c.args.l - 1) c.args.p c.in_ok-w.w.down c.args.k c.in_ok-w.w.at (omega arith) w.3 c.requires.asks.0 c.requires.asks.1.0 w.0 w.1 in
     (omega (arith, c.decreases), (within, (b.asks, (b.mine, (omega (arith, w.3.left, c.requires.asks.1.1.0), (omega (arith, c.requires.asks.1.1.1), search rules))))))
 
 pub returns-in-Some : goal.returns-in-Some
@@ -44,8 +44,8 @@ returns-in-Some g t c =
     record {
       got = (let d = g.S.PageStore.state c.args.s.now in let e = g.S.PageStore.state c.find_way.new.s in let f = g.S.PageStore.state c.next_at.new.s in
           let n : 0 < c.args.l = omega (arith, c.if-l-eq0.false) in
-          let w = c.in-ok-w.ensures.got in let r = c.in-ok-below.ensures.got in
-          let b = beyond d e c.args.l (c.args.l - 1) c.args.p c.in-ok-w.w.down c.args.k c.in-ok-w.w.at (omega arith) w.3 c.requires.asks.0 c.requires.asks.1.0 w.0 w.1 in (
+          let w = c.in_ok-w.ensures.got in let r = c.in_ok-below.ensures.got in
+          let b = beyond d e c.args.l (c.args.l - 1) c.args.p c.in_ok-w.w.down c.args.k c.in_ok-w.w.at (omega arith) w.3 c.requires.asks.0 c.requires.asks.1.0 w.0 w.1 in (
             b.some c.in-Some.e (sym c.in-Some.is ∙ r.0),
             still_on 1 (2 * (c.args.l - 1) + 1) (2 * c.args.l + 1) d e f (omega arith) w.3 r.1,
             (λ z. let y : ◌≡◌ {A = ℕ} 0 1 = cc in absurd (omega arith)),
@@ -59,10 +59,10 @@ first_at-requires g t c =
     record {
       asks = (let d = g.S.PageStore.state c.args.s.now in let e = g.S.PageStore.state c.find_way.new.s in let f = g.S.PageStore.state c.next_at.new.s in
           let n : 0 < c.args.l = omega (arith, c.if-l-eq0.false) in
-          let w = c.in-ok-w.ensures.got in let r = c.in-ok-below.ensures.got in
-          let y : RightOf (pairs_of (d.page c.args.p)) c.in-ok-w.w.at (Some c.in-Some-right.q) = subst (λ o. RightOf (pairs_of (d.page c.args.p)) c.in-ok-w.w.at o) c.in-Some-right.is w.2 in
-          let s = still_on 1 (c.args.l - 1 + 1) (c.args.l + 1) d e f (omega arith) w.3 (r.2 c.in-default.is) in
-          let k = kid_asks d c.args.l (c.args.l - 1) c.args.p c.in-Some-right.q (suc c.in-ok-w.w.at) c.args.k (omega arith) c.requires.asks.0 c.requires.asks.1.0 y.0 y.1 in
+          let w = c.in_ok-w.ensures.got in let r = c.in_ok-below.ensures.got in
+          let y : RightOf (pairs_of (d.page c.args.p)) c.in_ok-w.w.at (Some c.in-Some-right.q) = subst (λ o. RightOf (pairs_of (d.page c.args.p)) c.in_ok-w.w.at o) c.in-Some-right.is w.2 in
+          let s = still_on 1 (c.args.l - 1 + 1) (c.args.l + 1) d e f (omega arith) w.3 (r.2 c.in_default.is) in
+          let k = kid_asks d c.args.l (c.args.l - 1) c.args.p c.in-Some-right.q (suc c.in_ok-w.w.at) c.args.k (omega arith) c.requires.asks.0 c.requires.asks.1.0 y.0 y.1 in
           let a = asks_still (c.args.l + 1) d f (c.args.l - 1) c.in-Some-right.q s (k.0, k.1) in
           (a.0, (a.1, omega (arith, s.left, c.requires.asks.1.1.0))));
       whole = search rules;
@@ -73,12 +73,12 @@ returns-in-Some-right g t c =
     record {
       got = (let d = g.S.PageStore.state c.args.s.now in let e = g.S.PageStore.state c.find_way.new.s in let f = g.S.PageStore.state c.next_at.new.s in let h = g.S.PageStore.state c.first_at.new.s in
           let n : 0 < c.args.l = omega (arith, c.if-l-eq0.false) in
-          let w = c.in-ok-w.ensures.got in let r = c.in-ok-below.ensures.got in
-          let y : RightOf (pairs_of (d.page c.args.p)) c.in-ok-w.w.at (Some c.in-Some-right.q) = subst (λ o. RightOf (pairs_of (d.page c.args.p)) c.in-ok-w.w.at o) c.in-Some-right.is w.2 in
-          let s = still_on 1 (c.args.l - 1 + 1) (c.args.l + 1) d e f (omega arith) w.3 (r.2 c.in-default.is) in
-          let b = beyond d e c.args.l (c.args.l - 1) c.args.p c.in-ok-w.w.down c.args.k c.in-ok-w.w.at (omega arith) w.3 c.requires.asks.0 c.requires.asks.1.0 w.0 w.1 in
-          let q = c.in-ok-e.ensures.got in (
-            b.right c.in-ok-e.e c.in-Some-right.q f y.0 y.1 (sym c.in-default.is ∙ r.0) s.page q.0,
+          let w = c.in_ok-w.ensures.got in let r = c.in_ok-below.ensures.got in
+          let y : RightOf (pairs_of (d.page c.args.p)) c.in_ok-w.w.at (Some c.in-Some-right.q) = subst (λ o. RightOf (pairs_of (d.page c.args.p)) c.in_ok-w.w.at o) c.in-Some-right.is w.2 in
+          let s = still_on 1 (c.args.l - 1 + 1) (c.args.l + 1) d e f (omega arith) w.3 (r.2 c.in_default.is) in
+          let b = beyond d e c.args.l (c.args.l - 1) c.args.p c.in_ok-w.w.down c.args.k c.in_ok-w.w.at (omega arith) w.3 c.requires.asks.0 c.requires.asks.1.0 w.0 w.1 in
+          let q = c.in_ok-e.ensures.got in (
+            b.right c.in_ok-e.e c.in-Some-right.q f y.0 y.1 (sym c.in_default.is ∙ r.0) s.page q.0,
             still_on (c.args.l + 1) (c.args.l - 1 + 1) (2 * c.args.l + 1) d f h (omega arith) s q.1,
             (λ z. let y : ◌≡◌ {A = ℕ} 0 1 = cc in absurd (omega arith)),
           ));
@@ -91,11 +91,11 @@ returns g t c =
     record {
       got = (let d = g.S.PageStore.state c.args.s.now in let e = g.S.PageStore.state c.find_way.new.s in let f = g.S.PageStore.state c.next_at.new.s in
           let n : 0 < c.args.l = omega (arith, c.if-l-eq0.false) in
-          let w = c.in-ok-w.ensures.got in let r = c.in-ok-below.ensures.got in
-          let s = still_on 1 (c.args.l - 1 + 1) (c.args.l + 1) d e f (omega arith) w.3 (r.2 c.in-default.is) in
-          let y = subst (λ o. RightOf (pairs_of (d.page c.args.p)) c.in-ok-w.w.at o) c.in-default-right.is w.2 in
-          let b = beyond d e c.args.l (c.args.l - 1) c.args.p c.in-ok-w.w.down c.args.k c.in-ok-w.w.at (omega arith) w.3 c.requires.asks.0 c.requires.asks.1.0 w.0 w.1 in (
-            b.end y (sym c.in-default.is ∙ r.0),
+          let w = c.in_ok-w.ensures.got in let r = c.in_ok-below.ensures.got in
+          let s = still_on 1 (c.args.l - 1 + 1) (c.args.l + 1) d e f (omega arith) w.3 (r.2 c.in_default.is) in
+          let y = subst (λ o. RightOf (pairs_of (d.page c.args.p)) c.in_ok-w.w.at o) c.in_default-right.is w.2 in
+          let b = beyond d e c.args.l (c.args.l - 1) c.args.p c.in_ok-w.w.down c.args.k c.in_ok-w.w.at (omega arith) w.3 c.requires.asks.0 c.requires.asks.1.0 w.0 w.1 in (
+            b.end y (sym c.in_default.is ∙ r.0),
             still_more (c.args.l + 1) (2 * c.args.l + 1) d f (omega arith) s,
             (λ z. s),
           ));

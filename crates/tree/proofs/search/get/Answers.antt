@@ -13,8 +13,8 @@ returns-then-height-eq0 g c =
       tied = search rules;
     }
 
-pub overflow-sub-height : goal.overflow-sub-height
-overflow-sub-height g c =
+pub overflow_sub-height : goal.overflow_sub-height
+overflow_sub-height g c =
     omega (arith, c.if-height-eq0.false)
 
 pub get_at-requires : goal.get_at-requires

@@ -27,7 +27,7 @@ returns g c =
     let v = c.next.new.room in
     let x = c.args.view in
     let t = g.D.Index.pairs c.args.index.now (behind w) in
-    let e = c.in-ok-pair.ensures in
+    let e = c.in_ok-pair.ensures in
     let first : c.key_of.result ≡ next_key c.args.k t = c.key_of.ensures ∙ ap key_of e.told in
     let on = by_lines w v x c.next.auto.room c.next.ensures.tables c.requires.stands (λ q o. Onward q o c.args.k c.key_of.result c.onward.result) c.onward.ensures in
     record {

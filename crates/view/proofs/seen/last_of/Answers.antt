@@ -21,9 +21,9 @@ loop-i-preserved c =
     let is = c.seen_line.ensures ∙ ap (λ (x : Line). seen_line c.args.key x Unknown) c.line_at.ensures in
     (omega arith, last_miss c.args.key c.loop-i.i ls (seen_in c.args.key ls Unknown) c.seen_line.result (omega arith) (omega arith) c.loop-i.invariant.1 is c.in-Unknown.is)
 
-pub returns-in-default : goal.returns-in-default
-returns-in-default c =
+pub returns-in_default : goal.returns-in_default
+returns-in_default c =
     let ls = lines_of c.args.words.now c.args.ring in
     let n = length_lines c.args.words.now c.args.ring in
     let is = c.seen_line.ensures ∙ ap (λ (x : Line). seen_line c.args.key x Unknown) c.line_at.ensures in
-    last_hit c.args.key c.loop-i.i ls (seen_in c.args.key ls Unknown) c.seen_line.result (omega arith) (omega arith) c.loop-i.invariant.1 is c.in-default.not-Unknown
+    last_hit c.args.key c.loop-i.i ls (seen_in c.args.key ls Unknown) c.seen_line.result (omega arith) (omega arith) c.loop-i.invariant.1 is c.in_default.not-Unknown

@@ -15,12 +15,12 @@ loop-t-preserved c =
     let f = says (queue_of c.args.room.now c.args.view) (own_of c.args.room.now c.args.view) in
     λ r w. c.loop-t.invariant r (walk_more f c.loop-t.t c.in-Away.s c.args.first r c.in-Some.p c.in-Some.is c.in-Away.ensures w)
 
-pub returns-in-default-in_room : goal.returns-in-default-in_room
-returns-in-default-in_room c =
+pub returns-in_default-in_room : goal.returns-in_default-in_room
+returns-in_default-in_room c =
     let f = says (queue_of c.args.room.now c.args.view) (own_of c.args.room.now c.args.view) in
-    c.loop-t.invariant (Some c.in-Some.p) (walk_stays f c.loop-t.t c.in-Some.p c.in_room.result c.in-Some.is c.in_room.ensures c.in-default-in_room.not-Away)
+    c.loop-t.invariant (Some c.in-Some.p) (walk_stays f c.loop-t.t c.in-Some.p c.in_room.result c.in-Some.is c.in_room.ensures c.in_default-in_room.not-Away)
 
 pub returns : goal.returns
 returns c =
     let f = says (queue_of c.args.room.now c.args.view) (own_of c.args.room.now c.args.view) in
-    c.loop-t.invariant None (walk_ends f c.loop-t.t c.in-default.is)
+    c.loop-t.invariant None (walk_ends f c.loop-t.t c.in_default.is)
