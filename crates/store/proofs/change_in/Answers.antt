@@ -7,8 +7,8 @@ use Rattle.store.proofs.Places.{length_frames, frames_frames, frames_next, frame
 use Rattle.store.proofs.Views.{entered_like, intact_changed, plain_set}
 use Rattle.store.proofs.change_in.Goals as goal
 
-pub slice-bounds-change-end-2 : goal.slice-bounds-change-end-2
-slice-bounds-change-end-2 c = sym (length_frames c.args.part.now c.requires.long)
+pub slice_bounds-change-end-2 : goal.slice_bounds-change-end-2
+slice_bounds-change-end-2 c = sym (length_frames c.args.part.now c.requires.long)
 
 pub change-requires : goal.change-requires
 change-requires c = record { sound = c.requires.table; fits = c.requires.fits; used = c.requires.there.1; room = λ _. c.requires.room }

@@ -4,8 +4,8 @@ use Rattle.frames.specs.Frames.{Sound as Framed, Clean, pinned, shown_by}
 use Rattle.store.proofs.Places.{length_frames, frames_frames, frames_next}
 use Rattle.store.proofs.clear_frames.Goals as goal
 
-pub slice-bounds-reset-end-2 : goal.slice-bounds-reset-end-2
-slice-bounds-reset-end-2 c = sym (length_frames c.args.part.now c.requires.long)
+pub slice_bounds-reset-end-2 : goal.slice_bounds-reset-end-2
+slice_bounds-reset-end-2 c = sym (length_frames c.args.part.now c.requires.long)
 
 pub reset-requires : goal.reset-requires
 reset-requires c = length_frames c.args.part.now c.requires.long

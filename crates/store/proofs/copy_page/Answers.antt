@@ -7,7 +7,7 @@ use Rattle.store.proofs.copy_page.Goals as goal
 
 pub returns-in_err-load_scratch : goal.returns-in_err-load_scratch
 returns-in_err-load_scratch g c =
-    let p = err_from_is_err_and c.from-residual.result c.from-residual.ensures.1 in
+    let p = err_from_is_err_and c.from_residual.result c.from_residual.ensures.1 in
     record { wrote = rw p.1 (wrote_not c.args.to _ c.in_err-load_scratch.ensures.reads); head = c.load_scratch.ensures.head; tied = c.load_scratch.ensures.tied }
 
 pub write-requires : goal.write-requires

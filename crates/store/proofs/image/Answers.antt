@@ -9,7 +9,7 @@ write_images-requires g c = let i = c.requires.intact in
 
 pub returns-in_err-write_images : goal.returns-in_err-write_images
 returns-in_err-write_images g c =
-    let p = err_from_is_err_and c.from-residual.result c.from-residual.ensures.1 in
+    let p = err_from_is_err_and c.from_residual.result c.from_residual.ensures.1 in
     record { shoots = rw p.1 (shot_lost _ _ c.args.part.now c.args.store.now false c.requires.intact c.in_err-write_images.ensures.row tt); tied = c.write_images.ensures.tied }
 
 pub returns : goal.returns

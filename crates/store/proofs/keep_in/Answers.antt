@@ -6,8 +6,8 @@ use Rattle.store.proofs.Places.{length_frames, frames_frames, frames_next, frame
 use Rattle.store.proofs.Views.{intact_filled}
 use Rattle.store.proofs.keep_in.Goals as goal
 
-pub slice-bounds-fill-end-2 : goal.slice-bounds-fill-end-2
-slice-bounds-fill-end-2 c = sym (length_frames c.args.part.now c.requires.long)
+pub slice_bounds-fill-end-2 : goal.slice_bounds-fill-end-2
+slice_bounds-fill-end-2 c = sym (length_frames c.args.part.now c.requires.long)
 
 pub fill-requires : goal.fill-requires
 fill-requires c = record { sound = c.requires.table; fits = c.requires.fits; idle = c.requires.idle; new = c.requires.new }

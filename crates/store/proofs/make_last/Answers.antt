@@ -5,7 +5,7 @@ use Rattle.store.proofs.make_last.Goals as goal
 
 pub returns-in_err-sync : goal.returns-in_err-sync
 returns-in_err-sync g c =
-    let p = err_from_is_err_and c.from-residual.result c.from-residual.ensures.1 in
+    let p = err_from_is_err_and c.from_residual.result c.from_residual.ensures.1 in
     record { settles = rw p.1 (λ h y. settle_lost _ _ h _ y c.in_err-sync.ensures.synced); tied = c.sync.ensures.tied }
 
 pub returns : goal.returns

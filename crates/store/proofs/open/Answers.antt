@@ -11,7 +11,7 @@ use Rattle.store.proofs.open.Goals as goal
 
 pub returns-in_err-load_head : goal.returns-in_err-load_head
 returns-in_err-load_head g c = record {
-  opens = MatchResult-from_err c.from-residual.result _ _ c.from-residual.ensures.0 (λ _. read_lost _ _ _ _ (rested_safe c.requires.rested) c.in_err-load_head.ensures.reads);
+  opens = MatchResult-from_err c.from_residual.result _ _ c.from_residual.ensures.0 (λ _. read_lost _ _ _ _ (rested_safe c.requires.rested) c.in_err-load_head.ensures.reads);
   tied = c.load_head.ensures.tied;
 }
 
@@ -25,7 +25,7 @@ redo-requires g c = let r = c.in_ok-load_head.ensures.reads in record {
 
 pub returns-in_err-redo : goal.returns-in_err-redo
 returns-in_err-redo g c = record {
-  opens = MatchResult-from_err c.from-residual-in_err-redo.result _ _ c.from-residual-in_err-redo.ensures.0
+  opens = MatchResult-from_err c.from_residual-in_err-redo.result _ _ c.from_residual-in_err-redo.ensures.0
       (λ _. redo_lost (g.D.Device.medium c.args.d.now) _ _ c.load_head.new.part false c.requires.rested c.in_ok-load_head.ensures.reads c.in_err-redo.ensures.row tt);
   tied = c.redo.ensures.tied ∙ c.load_head.ensures.tied;
 }

@@ -10,7 +10,7 @@ returns-in-Some g c = record
 
 pub returns-in_err-read : goal.returns-in_err-read
 returns-in_err-read g c =
-    let p = err_from_is_err_and c.from-residual.result c.from-residual.ensures.1 in
+    let p = err_from_is_err_and c.from_residual.result c.from_residual.ensures.1 in
     record { got = rw p.1 (read_lost _ _ _ _ c.requires.intact.ready.kept.safe c.in_err-read.ensures.reads); tied = c.read.ensures.tied }
 
 pub returns : goal.returns

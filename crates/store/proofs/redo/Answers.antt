@@ -11,7 +11,7 @@ loop-k-init g c = (wrote_none _ _ _, c.requires.long, refl, refl)
 
 pub returns-in_err-copy_page : goal.returns-in_err-copy_page
 returns-in_err-copy_page g c =
-    let p = err_from_is_err_and c.from-residual.result c.from-residual.ensures.1 in
+    let p = err_from_is_err_and c.from_residual.result c.from_residual.ensures.1 in
     let h = next c.args.part.now in
     let e : next c.loop-k.part ≡ next c.args.part.now = ap head_of c.loop-k.invariant.2 in
     let s : Sound (g.D.Device.medium c.args.d.now).pages (next c.args.part.now) = subst (λ w. Sound (g.D.Device.medium c.args.d.now).pages (head_of w)) (sym c.requires.head) c.requires.rested.head in

@@ -7,7 +7,7 @@ use Rattle.store.proofs.seal.Goals as goal
 
 pub returns-in_err-make_last : goal.returns-in_err-make_last
 returns-in_err-make_last g c =
-    let p = err_from_is_err_and c.from-residual.result c.from-residual.ensures.1 in
+    let p = err_from_is_err_and c.from_residual.result c.from_residual.ensures.1 in
     record { seals = rw p.1 (lost_either (g.D.Device.medium c.args.d.now) _ (next c.args.part.now) (c.in_err-make_last.ensures.settles _ c.requires.intact.ready)); tied = c.make_last.ensures.tied }
 
 pub write_head-requires : goal.write_head-requires
@@ -23,7 +23,7 @@ write_head-requires g c =
 
 pub returns-in_err-write_head : goal.returns-in_err-write_head
 returns-in_err-write_head g c =
-    let p = err_from_is_err_and c.from-residual-in_err-write_head.result c.from-residual-in_err-write_head.ensures.1 in
+    let p = err_from_is_err_and c.from_residual-in_err-write_head.result c.from_residual-in_err-write_head.ensures.1 in
     let s = c.in_ok-make_last.ensures.settles _ c.requires.intact.ready in
     record {
       seals = rw p.1 (either_like (g.D.Device.medium c.args.d.now) (g.D.Device.medium c.make_last.new.d) _ (next c.args.part.now) s.pages s.shown c.in_err-write_head.ensures.moves);

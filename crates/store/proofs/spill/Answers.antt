@@ -11,7 +11,7 @@ ring_end-p-requires g c = let k = c.requires.ready.follows.ok in
 
 pub returns-in_err-write : goal.returns-in_err-write
 returns-in_err-write g c =
-    let p = err_from_is_err_and c.from-residual.result c.from-residual.ensures.1 in
+    let p = err_from_is_err_and c.from_residual.result c.from_residual.ensures.1 in
     record {
       spills = rw p.1 (spill_lost _ _ c.args.part.now _ _ c.requires.ready c.requires.room c.ring_end-p.ensures c.in_err-write.ensures.wrote);
       tied = c.write.ensures.tied;

@@ -7,8 +7,8 @@ use Rattle.store.proofs.Places.{length_frames, frames_frames, frames_next, frame
 use Rattle.store.proofs.Views.{entered_like, intact_changed, plain_set}
 use Rattle.store.proofs.stage_in.Goals as goal
 
-pub slice-bounds-stage-end-2 : goal.slice-bounds-stage-end-2
-slice-bounds-stage-end-2 c = sym (length_frames c.args.part.now c.requires.long)
+pub slice_bounds-stage-end-2 : goal.slice_bounds-stage-end-2
+slice_bounds-stage-end-2 c = sym (length_frames c.args.part.now c.requires.long)
 
 pub returns : goal.returns
 returns c =

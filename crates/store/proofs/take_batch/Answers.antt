@@ -14,7 +14,7 @@ use Rattle.store.proofs.take_batch.Goals as goal
 
 pub returns-in_err-make_last : goal.returns-in_err-make_last
 returns-in_err-make_last g c =
-    let p = err_from_is_err_and c.from-residual.result c.from-residual.ensures.1 in
+    let p = err_from_is_err_and c.from_residual.result c.from_residual.ensures.1 in
     let l = c.in_err-make_last.ensures.settles (next c.args.part.now) c.requires.intact.ready in
     record { takes = rw p.1 (record { off = l.off; pages = l.pages; back = λ f b. let r = l.back f b in (r.0, inl r.1) }); tied = c.make_last.ensures.tied }
 
@@ -44,7 +44,7 @@ write_head-requires g c =
 
 pub returns-in_err-write_head : goal.returns-in_err-write_head
 returns-in_err-write_head g c =
-    let p = err_from_is_err_and c.from-residual-in_err-write_head.result c.from-residual-in_err-write_head.ensures.1 in
+    let p = err_from_is_err_and c.from_residual-in_err-write_head.result c.from_residual-in_err-write_head.ensures.1 in
     let part = c.args.part.now in let i = c.requires.intact in
     let m = g.D.Device.medium c.args.d.now in let a = g.D.Device.medium c.make_last.new.d in
     let x = c.in_ok-make_last.ensures.settles (next part) i.ready in
@@ -69,7 +69,7 @@ install-requires g c =
 
 pub returns-in_err-install : goal.returns-in_err-install
 returns-in_err-install g c =
-    let p = err_from_is_err_and c.from-residual-in_err-install.result c.from-residual-in_err-install.ensures.1 in
+    let p = err_from_is_err_and c.from_residual-in_err-install.result c.from_residual-in_err-install.ensures.1 in
     let part = c.args.part.now in let i = c.requires.intact in
     let m = g.D.Device.medium c.args.d.now in let a = g.D.Device.medium c.make_last.new.d in
     let b = g.D.Device.medium c.write_head.new.d in let e = g.D.Device.medium c.install.new.d in

@@ -3,8 +3,8 @@ use Rattle.store.specs.Medium.{Wrote}
 use Rattle.store.proofs.Places.{length_frames}
 use Rattle.store.proofs.write_frame.Goals as goal
 
-pub slice-bounds-frame-end : goal.slice-bounds-frame-end
-slice-bounds-frame-end g c = sym (length_frames c.args.part.now c.requires.long.0)
+pub slice_bounds-frame-end : goal.slice_bounds-frame-end
+slice_bounds-frame-end g c = sym (length_frames c.args.part.now c.requires.long.0)
 
 pub frame-requires : goal.frame-requires
 frame-requires g c = (length_frames c.args.part.now c.requires.long.0, c.requires.long.1)

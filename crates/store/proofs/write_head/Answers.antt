@@ -5,7 +5,7 @@ use Rattle.store.proofs.write_head.Goals as goal
 
 pub returns-in_err-write : goal.returns-in_err-write
 returns-in_err-write g c =
-    let p = err_from_is_err_and c.from-residual.result c.from-residual.ensures.1 in
+    let p = err_from_is_err_and c.from_residual.result c.from_residual.ensures.1 in
     let w = c.in_err-write.ensures.wrote in
     record {
       moves = rw p.1 (moves_cut _ _ c.args.head.now c.requires.kept c.requires.sound c.requires.firm _ false w refl w.on (λ q x i. i));

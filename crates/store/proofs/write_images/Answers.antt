@@ -28,7 +28,7 @@ write_frame-requires g c =
 
 pub returns-in_err-write_frame : goal.returns-in_err-write_frame
 returns-in_err-write_frame g c =
-    let p = err_from_is_err_and c.from-residual.result c.from-residual.ensures.1 in
+    let p = err_from_is_err_and c.from_residual.result c.from_residual.ensures.1 in
     record {
       row = rw p.1 (wrote_part (omega (arith, c.loop-k-test.true, c.batch_len-k-end.ensures.count)) (omega (arith, c.loop-k-test.true, c.batch_len-k-end.ensures.count))
           (wrote_more c.loop-k.invariant.0 c.in_err-write_frame.ensures.wrote c.other_slot-to.ensures (ap (frame_in (cache c.args.part.now).frames) c.batch_slot-slot.ensures.slot)));

@@ -8,15 +8,15 @@ returns-then-who-ge-CLERKS c = no_clerk _ _ _ c.word_end-end.ensures (simp front
 
 pub returns-in_err-read_order : goal.returns-in_err-read_order
 returns-in_err-read_order c =
-    rw c.from-residual.ensures (no_order _ _ _ c.word_end-end.ensures (simp front_is at c.in-Some.ensures) (simp back_is at c.in_err-read_order.ensures))
+    rw c.from_residual.ensures (no_order _ _ _ c.word_end-end.ensures (simp front_is at c.in-Some.ensures) (simp back_is at c.in_err-read_order.ensures))
 
 pub returns-in_err-op : goal.returns-in_err-op
 returns-in_err-op c =
-    rw c.from-residual-in_err-op.ensures (no_op _ _ _ _ c.word_end-end.ensures (simp front_is at c.in-Some.ensures) (simp back_is at c.in_ok-read_order.ensures) c.in_err-op.ensures)
+    rw c.from_residual-in_err-op.ensures (no_op _ _ _ _ c.word_end-end.ensures (simp front_is at c.in-Some.ensures) (simp back_is at c.in_ok-read_order.ensures) c.in_err-op.ensures)
 
 pub returns-in_err-read_order-2 : goal.returns-in_err-read_order-2
 returns-in_err-read_order-2 c =
-    rw c.from-residual-in_err-read_order-2.ensures (no_own _ _ c.word_end-end.ensures (simp front_is at c.in-None.ensures) c.in_err-read_order-2.ensures)
+    rw c.from_residual-in_err-read_order-2.ensures (no_own _ _ c.word_end-end.ensures (simp front_is at c.in-None.ensures) c.in_err-read_order-2.ensures)
 
 pub returns-in_ok-op : goal.returns-in_ok-op
 returns-in_ok-op c =

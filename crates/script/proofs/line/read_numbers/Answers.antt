@@ -9,7 +9,7 @@ returns-then-text-eq0 c = no_numbers _ c.if-text-eq0.true
 pub returns-in_err-first : goal.returns-in_err-first
 returns-in_err-first c =
     let s = spaces _ _ c.if-text-eq0.false c.if-text-ne32.false c.word_end-end.ensures in
-    rw c.from-residual.ensures (no_first _ _ s (simp (front_is, back_is) at c.in_err-first.ensures))
+    rw c.from_residual.ensures (no_first _ _ s (simp (front_is, back_is) at c.in_err-first.ensures))
 
 pub returns-then-end-rest : goal.returns-then-end-rest
 returns-then-end-rest c =
@@ -20,7 +20,7 @@ pub returns-in_err-second : goal.returns-in_err-second
 returns-in_err-second c =
     let s = spaces _ _ c.if-text-eq0.false c.if-text-ne32.false c.word_end-end.ensures in
     let more = simp back_is at c.if-end-rest.false in
-    rw c.from-residual-in_err-second.ensures (no_second _ _ s (omega (arith, s.ends.within)) (simp back_is at c.in_err-second.ensures))
+    rw c.from_residual-in_err-second.ensures (no_second _ _ s (omega (arith, s.ends.within)) (simp back_is at c.in_err-second.ensures))
 
 pub returns : goal.returns
 returns c =

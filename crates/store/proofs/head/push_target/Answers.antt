@@ -9,8 +9,8 @@ few n l = omega arith
 pub overflow_add-head : goal.overflow_add-head
 overflow_add-head c = omega (arith, target_count c.args.head.now c.requires.long (few _ c.requires.room), c.requires.room)
 
-pub offset-bounds-head-n : goal.offset-bounds-head-n
-offset-bounds-head-n c = omega (arith, target_count c.args.head.now c.requires.long (few _ c.requires.room), c.requires.room)
+pub offset_bounds-head-n : goal.offset_bounds-head-n
+offset_bounds-head-n c = omega (arith, target_count c.args.head.now c.requires.long (few _ c.requires.room), c.requires.room)
 
 pub bounds-head-n : goal.bounds-head-n
 bounds-head-n c = omega (arith, target_count c.args.head.now c.requires.long (few _ c.requires.room), c.requires.room, c.requires.long)

@@ -1,6 +1,6 @@
 use Rattle.std.proofs.Common.{arith}
-use Rattle.store.proofs.Words.{target-word}
+use Rattle.store.proofs.Words.{target_word}
 use Rattle.store.proofs.head.target.Goals as goal
 
 pub returns : goal.returns
-returns c = target-word c.args.head.now c.args.k c.requires.long c.requires.few c.requires.named
+returns c = target_word c.args.head.now c.args.k c.requires.long c.requires.few c.requires.named

@@ -51,7 +51,7 @@ drop_at-requires g t c κs within =
     let n : 0 < c.args.l = omega (arith, c.if-l-eq0.false) in
     let w = c.in_ok-w.ensures.got in
     let b = below d e c.args.l (c.args.l - 1) c.args.p c.in_ok-w.w.down c.args.k c.in_ok-w.w.at (omega arith) w.3 c.requires.asks.0 c.requires.asks.1.0 w.0 w.1 in
-    (omega (arith, c.decreases), (within, (b.asks, (b.mine, (once_still 1 d e w.3 c.requires.asks.1.1.0, (kid_wide d e c.args.l (c.args.l - 1) c.args.p c.in_ok-w.w.down c.args.k c.in_ok-w.w.at (omega arith) w.3 c.requires.asks.0 w.0 w.1, (omega (arith, w.3.left, c.requires.asks.1.1.1.1), (omega (arith, w.3.spare, c.requires.budget), search rules))))))))
+    (omega (arith, c.decreases), (within, ((b.asks, (b.mine, (once_still 1 d e w.3 c.requires.asks.1.1.0, (kid_wide d e c.args.l (c.args.l - 1) c.args.p c.in_ok-w.w.down c.args.k c.in_ok-w.w.at (omega arith) w.3 c.requires.asks.0 w.0 w.1, omega (arith, w.3.left, c.requires.asks.1.1.1.1))))), (omega (arith, w.3.spare, c.requires.budget), search rules))))
 
 pub mend-requires : goal.mend-requires
 mend-requires g t c =
