@@ -33,7 +33,7 @@ first_at-requires g t c κs within =
     let h : 0 < length (pairs_of (d.page c.args.p)) = omega (arith, pairs_length (d.page c.args.p) x.0, x.1) in
     let r = kid_asks d c.args.l (c.args.l - 1) c.args.p c.in_ok-e.e.1 0 c.requires.asks.0.0 (omega arith) c.requires.asks.0.1 c.requires.asks.1.0 h (ap (λ y. y.1) w.0) in
     let a = asks_still 1 d e (c.args.l - 1) c.in_ok-e.e.1 w.1 (r.0, r.1) in
-    (omega (arith, c.decreases), (within, (((_, a.0), (a.1, omega (arith, w.1.left, c.requires.asks.1.1))), search rules)))
+    (omega (arith, c.decreases), (within, ((a.0, (a.1, omega (arith, w.1.left, c.requires.asks.1.1))), search rules)))
 
 pub returns : goal.returns
 returns g t c =
