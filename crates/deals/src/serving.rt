@@ -4,7 +4,7 @@ ghost use Rattle.deals.specs.Deals.{State, Book, Quiet, Under, Over, set_clerk};
 ghost use Rattle.deals.specs.Promise.{can};
 ghost use Rattle.deals.specs.Tables.{Sound, count_at, waiting_in, order_of, rest_of};
 ghost use Rattle.deals.specs.LineUps.{TablesHold, Served};
-ghost use Rattle.deals.specs.Ages.{Idle-turn, Turn-goes, One-told, Stays-young};
+ghost use Rattle.deals.specs.Ages.{IdleTurn, TurnGoes, OneTold, StaysYoung};
 
 use super::asked::write_op;
 use super::desk::{forget, tell};
@@ -93,10 +93,10 @@ pub fn clear(room: &mut [u64])
 
 // The tables hold through a turn and a telling, and nobody's asking gets older than 32 turns that count.
 pub fn ages_stay_low() -> u8
-    ensures idle { Idle-turn }
-    ensures turn { Turn-goes }
-    ensures told { One-told }
-    ensures young { Stays-young }
+    ensures idle { IdleTurn }
+    ensures turn { TurnGoes }
+    ensures told { OneTold }
+    ensures young { StaysYoung }
 {
     0
 }

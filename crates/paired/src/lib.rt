@@ -1,24 +1,24 @@
 // The book as pairs, and what a deal is told as what it sees.
-ghost use Rattle.paired.specs.Paired.{Put-is, Drop-is, Find-is, Next-is, Onto-is};
-ghost use Rattle.paired.specs.Told.{Get-told, Drop-told, Next-told, Leaves-told};
+ghost use Rattle.paired.specs.Paired.{PutIs, DropIs, FindIs, NextIs, OntoIs};
+ghost use Rattle.paired.specs.Told.{GetTold, DropTold, NextTold, LeavesTold};
 
 // Each is a law between the statements' book and pairs with rising keys.
 pub fn book_is_pairs() -> u8
-    ensures put { Put-is }
-    ensures drop { Drop-is }
-    ensures find { Find-is }
-    ensures next { Next-is }
-    ensures onto { Onto-is }
+    ensures put { PutIs }
+    ensures drop { DropIs }
+    ensures find { FindIs }
+    ensures next { NextIs }
+    ensures onto { OntoIs }
 {
     0
 }
 
 // What the statements tell a deal is what is found in the tree's pairs after the queue's writes and the deal's own.
 pub fn deal_sees() -> u8
-    ensures get { Get-told }
-    ensures drop { Drop-told }
-    ensures next { Next-told }
-    ensures leaves { Leaves-told }
+    ensures get { GetTold }
+    ensures drop { DropTold }
+    ensures next { NextTold }
+    ensures leaves { LeavesTold }
 {
     0
 }

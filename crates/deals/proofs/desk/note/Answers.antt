@@ -11,7 +11,7 @@ use Rattle.deals.proofs.desk.note.Goals as goal
 use Rattle.deals.proofs.desk.note.Goals.{in-Back, in_default}
 
 -- the op, and the lines before the push
-went : (c : goal.After-slice_known-2·1) → (c.match-o.o ≡ c.args.o) × (lines_of c.match-o.words (deal_ring c.args.n) ≡ gone_by c.args.o (lines_of c.args.words.now (deal_ring c.args.n)))
+went : (c : goal.After-slice_known-2-1) → (c.match-o.o ≡ c.args.o) × (lines_of c.match-o.words (deal_ring c.args.n) ≡ gone_by c.args.o (lines_of c.args.words.now (deal_ring c.args.n)))
 went c =
     let r = deal_ring c.args.n in
     let ls = lines_of c.args.words.now r in

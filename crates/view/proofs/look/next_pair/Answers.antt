@@ -17,7 +17,7 @@ unreachable-requires g c =
     let e = c.in_ok-next_key.ensures in
     let up = rising_lines (with_lines t (queue_of w c.args.view)) (own_of w c.args.view) (rising_lines t (queue_of w c.args.view) c.requires.up) in
     let on = seen_on w c.next_key.new.room c.args.view c.next_key.auto.room c.next_key.ensures.tables c.requires.stands t (g.D.Index.pairs c.next_key.new.index (behind c.next_key.new.room)) e.same in
-    next_there s c.args.k c.in-Some.p up (sym c.in-Some.is ∙ e.told) (sym c.in-None-2.is ∙ (c.in_ok-x.ensures.told ∙ ap (find c.in-Some.p) on))
+    next_there s c.args.k c.in-Some.p up (sym c.in-Some.is ∙ e.told) (sym c.in-None-2.is ∙ (c.in_ok-x-in-Some.ensures.told ∙ ap (find c.in-Some.p) on))
 
 pub returns-in-None : goal.returns-in-None
 returns-in-None g c =
@@ -42,7 +42,7 @@ returns-in-Some-2 g c =
     let b = g.D.Index.budget c.args.index.now in
     let d = g.D.Index.budget c.next_key.new.index in
     let e = c.in_ok-next_key.ensures in
-    let f = c.in_ok-x.ensures in
+    let f = c.in_ok-x-in-Some.ensures in
     let p = c.in-Some.p in
     let up = rising_lines (with_lines t (queue_of w c.args.view)) (own_of w c.args.view) (rising_lines t (queue_of w c.args.view) c.requires.up) in
     let on = seen_on w c.next_key.new.room c.args.view c.next_key.auto.room c.next_key.ensures.tables c.requires.stands t (g.D.Index.pairs c.next_key.new.index (behind c.next_key.new.room)) e.same in
