@@ -1,10 +1,10 @@
 -- The way back, line by line; and the marks that stand then.
-use Rattle.std.proofs.Common.{◌≡◌, ℕ, zero, suc, ◌+◌, ◌-◌, ◌<◌, ◌≤◌, min, eqb, List, [], ◌∷◌, ◌++◌, length, get_or, take, drop, set, sym, refl, ap, ◌∙◌, arith}
+use Rattle.std.proofs.Common.{◌≡◌, ℕ, zero, suc, ◌+◌, ◌-◌, ◌<◌, ◌≤◌, min, List, [], ◌∷◌, ◌++◌, length, get_or, take, drop, set, sym, ap, ◌∙◌, arith}
 use Rattle.std.proofs.lemmas.List.{append_assoc, get_or-drop, drop_more, drop-drop, drop-set-lt, take_more_set}
 use Rattle.std.proofs.lemmas.Bool.{ne_eqb}
 use Rattle.lines.specs.declared.line.Line.{Line}
 use Rattle.lines.specs.declared.line.Line.TheVariants.{Idle, Wrote, Cleared, Stale, Read, Scanned, Marked}
-use Rattle.lines.specs.Marks.{mark_of, marks_in, stale, backed, line_back, left_back}
+use Rattle.lines.specs.Marks.{mark_of, marks_in, backed, line_back, left_back}
 
 all_stay : (n : ℕ) → suc n - 0 ≡ suc n
 all_stay n = omega arith

@@ -1,12 +1,11 @@
 -- A write to one of the tables, seen from each.
-use Rattle.std.proofs.Common.{◌≡◌, ℕ, zero, suc, ◌+◌, ◌-◌, ◌*◌, ◌<◌, ◌≤◌, ◌⊎◌, List, [], ◌∷◌, ◌++◌, length, get_or, take, drop, sym, refl, ap, ◌∙◌, inl, inr, arith, rules}
+use Rattle.std.proofs.Common.{◌≡◌, ℕ, ◌+◌, ◌*◌, ◌<◌, ◌≤◌, List, length, take, drop, sym, ap, ◌∙◌, inl, inr, arith, rules}
 use borrow.Rule.Slice.PartMut.{put_mid}
 use Rattle.std.proofs.lemmas.List.{places, same_lists, take_all, length-take, length-drop}
 use Rattle.std.proofs.lemmas.Bool.{cases_lt}
-use Rattle.lines.specs.declared.line.Line.{Line}
 use Rattle.lines.specs.declared.ring.Ring.{Ring}
 use Rattle.lines.specs.Rings.{lines_of}
-use Rattle.lines.specs.Tables.{deal_ring, deal_lines, queue_lines, tables, behind, OnlyDeal, OnlyQueue}
+use Rattle.lines.specs.Tables.{deal_ring, deal_lines, queue_lines, tables, OnlyDeal, OnlyQueue}
 
 -- a write of ys to xs[a .. a + k], seen from elsewhere
 module _ (a k : ℕ) (xs ys : List ℕ) (fits : a + k ≤ length xs) (same : length ys ≡ k) where

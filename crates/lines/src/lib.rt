@@ -1,4 +1,6 @@
 // Lines: what a deal said, and what the queue holds, three words each, in rings of such lines.
+#![tactic(auto)]
+
 pub mod line;
 pub mod marks;
 pub mod own;

@@ -1,5 +1,7 @@
 // A node of the tree as a page of words: the number of entries, the level (0 for a leaf), the keys, the words.
 // Keys rise. An entry of a leaf is a pair of the map; one of an inner node is a child's lower fence and the child's page.
+#![tactic(auto)]
+
 mod balance;
 mod edit;
 mod search;

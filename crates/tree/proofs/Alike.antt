@@ -1,5 +1,5 @@
 -- A tree in a view that has the same pages.
-use Rattle.std.proofs.Common.{◌≡◌, ℕ, zero, suc, ◌+◌, ◌-◌, ◌≤◌, List, [], ◌∷◌, ◌++◌, sym, refl, ap, ◌∙◌, subst, ap₂, arith}
+use Rattle.std.proofs.Common.{◌≡◌, ℕ, zero, suc, ◌+◌, ◌≤◌, List, [], ◌∷◌, ◌++◌, sym, refl, ap, ◌∙◌, subst, ap₂, arith}
 use Rattle.node.specs.Pairs.{Up}
 use Rattle.node.specs.Node.{pairs_of}
 use Rattle.tree.specs.Tree.{joined, pairs_at, pages_at, occ, Kids, Node, Well}

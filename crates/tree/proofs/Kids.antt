@@ -1,5 +1,5 @@
 -- Children side by side, and the way down to one of them.
-use Rattle.std.proofs.Common.{◌≡◌, ℕ, zero, suc, ◌+◌, ◌-◌, ◌<◌, ◌≤◌, List, [], ◌∷◌, ◌++◌, length, get_or, take, drop, sym, refl, ap, ◌∙◌, subst, append_assoc, arith}
+use Rattle.std.proofs.Common.{◌≡◌, ℕ, zero, suc, ◌+◌, ◌<◌, ◌≤◌, List, [], ◌∷◌, ◌++◌, length, get_or, take, drop, sym, refl, ap, ◌∙◌, subst, append_assoc, arith}
 use Rattle.node.specs.Pairs.{Up}
 use Rattle.node.specs.Node.{pairs_of}
 use Rattle.tree.specs.Tree.{joined, pairs_at, occ, Kids, Well, Node}

@@ -1,5 +1,5 @@
 -- One node: what a write of its page, or of it and a new one, leaves.
-use Rattle.std.proofs.Common.{◌≡◌, ℕ, ◌+◌, ◌-◌, ◌≤◌, List, get_or, set, Some, None, Option, sym, ap, ◌∙◌, subst, arith}
+use Rattle.std.proofs.Common.{◌≡◌, ℕ, ◌+◌, ◌≤◌, List, get_or, set, Some, None, Option, sym, ap, ◌∙◌, subst, arith}
 use Rattle.std.specs.List.{insert}
 use Rattle.node.specs.Pairs.{put_in}
 use Rattle.node.specs.Node.{level_of, pairs_of, Page, Shared, Found, Missing}

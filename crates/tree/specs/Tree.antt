@@ -1,5 +1,5 @@
 -- A tree of pages: what it means, which pages it has, and when it is well formed.
-use Rattle.std.specs.Prelude.{◌≡◌, ℕ, zero, suc, ◌+◌, ◌-◌, ◌<◌, ◌≤◌, cond, List, [], ◌∷◌, ◌++◌, ◌==◌}
+use Rattle.std.specs.Prelude.{◌≡◌, ℕ, zero, suc, ◌+◌, ◌<◌, ◌≤◌, cond, List, [], ◌∷◌, ◌++◌, ◌==◌}
 use Rattle.node.specs.Layout.{capacity, least}
 use Rattle.node.specs.Pairs.{Up}
 use Rattle.node.specs.Node.{count_of, level_of, pairs_of, IsNode}

@@ -1,4 +1,6 @@
 // A B+tree of pages, over any store of pages: it answers as a list of pairs with rising keys does.
+#![tactic(auto)]
+
 pub mod count;
 mod insert;
 mod pages;

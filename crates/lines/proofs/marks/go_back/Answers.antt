@@ -1,8 +1,8 @@
-use Rattle.std.proofs.Common.{◌≡◌, ℕ, ◌+◌, List, [], ◌++◌, length, get_or, take, drop, set, sym, refl, ap, ◌∙◌, subst, arith}
+use Rattle.std.proofs.Common.{◌≡◌, ℕ, ◌+◌, List, [], ◌++◌, take, drop, set, sym, ap, ◌∙◌, arith}
 use Rattle.std.proofs.lemmas.List.{take_all, drop_all, append-nil}
 use Rattle.lines.specs.declared.line.Line.{Line}
 use Rattle.lines.specs.Rings.{lines_of}
-use Rattle.lines.specs.Marks.{marks_in, backed, line_back, left_back}
+use Rattle.lines.specs.Marks.{marks_in, backed, line_back}
 use Rattle.lines.proofs.Circle.{length_lines}
 use Rattle.lines.proofs.Going.{back_step, marks_back}
 use Rattle.lines.proofs.marks.go_back.Goals as goal

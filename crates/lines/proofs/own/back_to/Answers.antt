@@ -1,8 +1,8 @@
-use Rattle.std.proofs.Common.{◌≡◌, ◌+◌, ◌-◌, ◌*◌, List, length, take, drop, sym, ap, ◌∙◌, arith}
+use Rattle.std.proofs.Common.{◌≡◌, ◌+◌, ◌-◌, ◌*◌, length, take, drop, sym, ap, ◌∙◌, arith}
 use Rattle.lines.specs.declared.ring.Ring.{Ring}
 use Rattle.lines.specs.Rings.{lines_of}
 use Rattle.lines.specs.Marks.{marks_in, backed}
-use Rattle.lines.specs.Tables.{deal_ring, deal_lines}
+use Rattle.lines.specs.Tables.{deal_lines}
 use Rattle.lines.proofs.Going.{marks_back}
 use Rattle.lines.proofs.Parts.{deal_length, deal_part, deal_here, only_deal}
 use Rattle.lines.proofs.own.back_to.Goals as goal

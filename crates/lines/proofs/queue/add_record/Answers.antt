@@ -1,4 +1,4 @@
-use Rattle.std.proofs.Common.{◌≡◌, length, take, drop, ◌∙◌, arith}
+use Rattle.std.proofs.Common.{◌≡◌, length, ◌∙◌, arith}
 use Rattle.lines.specs.Tables.{queue_lines}
 use Rattle.lines.proofs.Parts.{length_put_mid, queue_length, queue_here, only_queue}
 use Rattle.lines.proofs.queue.add_record.Goals as goal

@@ -1,4 +1,4 @@
-use Rattle.std.proofs.Common.{◌≡◌, ℕ, ◌+◌, ◌-◌, ◌<◌, ◌≤◌, ◌⊎◌, List, ◌∷◌, sym, refl, ap, ◌∙◌, inl, inr, arith}
+use Rattle.std.proofs.Common.{◌≡◌, ◌+◌, ◌-◌, ◌<◌, ◌≤◌, ◌⊎◌, ◌∷◌, sym, refl, ap, ◌∙◌, inl, inr, arith}
 use Rattle.lines.specs.Rings.{lines_of}
 use Rattle.lines.proofs.Circle.{ring, pop_lines}
 use Rattle.lines.proofs.ring.pop_front.Goals as goal

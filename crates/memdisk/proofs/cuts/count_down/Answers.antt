@@ -11,8 +11,8 @@ pub loop-i-preserved : goal.loop-i-preserved
 loop-i-preserved c =
     let ws = c.args.cuts.now in let vs = c.loop-i.cuts in let i = c.loop-i.i in let n = c.loop-i.due in let d = c.due_at-next.result in
     elim c.if-comes.branch [
-      | then-comes w ↦ rw (w.cuts-is, w.due-is, w.came-is) (counting_came ws vs i n c.loop-i.branch d c.loop-i.invariant c.due_at-next.ensures (sym c.comes.ensures ∙ w.if-comes.true))
-      | else-comes w ↦ rw (w.cuts-is, w.due-is, w.came-is) (counting_left ws vs w.put_due.new.cuts i n c.loop-i.branch d c.loop-i.invariant c.due_at-next.ensures (sym c.comes.ensures ∙ w.if-comes.false) w.put_due.ensures)
+      | then-comes w ↦ rw (w.cuts-is, w.due-is, w.came-is) (counting_came ws vs i n c.loop-i.came d c.loop-i.invariant c.due_at-next.ensures (sym c.comes.ensures ∙ w.if-comes.true))
+      | else-comes w ↦ rw (w.cuts-is, w.due-is, w.came-is) (counting_left ws vs w.put_due.new.cuts i n c.loop-i.came d c.loop-i.invariant c.due_at-next.ensures (sym c.comes.ensures ∙ w.if-comes.false) w.put_due.ensures)
     ]
 
 pub returns : goal.returns

@@ -6,22 +6,22 @@ use Rattle.script.proofs.line.parse.Goals as goal
 pub returns-then-who-ge-CLERKS : goal.returns-then-who-ge-CLERKS
 returns-then-who-ge-CLERKS c = no_clerk _ _ _ c.word_end-end.ensures (simp front_is at c.in-Some.ensures) c.then-who-ge-CLERKS.either
 
-pub returns-in_err-read_order : goal.returns-in_err-read_order
-returns-in_err-read_order c =
-    rw c.from_residual.ensures (no_order _ _ _ c.word_end-end.ensures (simp front_is at c.in-Some.ensures) (simp back_is at c.in_err-read_order.ensures))
+pub returns-in_err-read_order-in-Some : goal.returns-in_err-read_order-in-Some
+returns-in_err-read_order-in-Some c =
+    rw c.from_residual.ensures (no_order _ _ _ c.word_end-end.ensures (simp front_is at c.in-Some.ensures) (simp back_is at c.in_err-read_order-in-Some.ensures))
 
-pub returns-in_err-op : goal.returns-in_err-op
-returns-in_err-op c =
-    rw c.from_residual-in_err-op.ensures (no_op _ _ _ _ c.word_end-end.ensures (simp front_is at c.in-Some.ensures) (simp back_is at c.in_ok-read_order.ensures) c.in_err-op.ensures)
+pub returns-in_err-op-in-Some : goal.returns-in_err-op-in-Some
+returns-in_err-op-in-Some c =
+    rw c.from_residual-in_err-op-in-Some.ensures (no_op _ _ _ _ c.word_end-end.ensures (simp front_is at c.in-Some.ensures) (simp back_is at c.in_ok-read_order-in-Some.ensures) c.in_err-op-in-Some.ensures)
 
-pub returns-in_err-read_order-2 : goal.returns-in_err-read_order-2
-returns-in_err-read_order-2 c =
-    rw c.from_residual-in_err-read_order-2.ensures (no_own _ _ c.word_end-end.ensures (simp front_is at c.in-None.ensures) c.in_err-read_order-2.ensures)
+pub returns-in_err-read_order-in-None : goal.returns-in_err-read_order-in-None
+returns-in_err-read_order-in-None c =
+    rw c.from_residual-in_err-read_order-in-None.ensures (no_own _ _ c.word_end-end.ensures (simp front_is at c.in-None.ensures) c.in_err-read_order-in-None.ensures)
 
-pub returns-in_ok-op : goal.returns-in_ok-op
-returns-in_ok-op c =
-    an_ask _ _ _ _ _ c.word_end-end.ensures (simp front_is at c.in-Some.ensures) c.if-who-ge-CLERKS.false (omega (arith, c.word_end-end.ensures.within)) (simp back_is at c.in_ok-read_order.ensures) c.in_ok-op.ensures
+pub returns-in_ok-op-in-Some : goal.returns-in_ok-op-in-Some
+returns-in_ok-op-in-Some c =
+    an_ask _ _ _ _ _ c.word_end-end.ensures (simp front_is at c.in-Some.ensures) c.if-who-ge-CLERKS.false (omega (arith, c.word_end-end.ensures.within)) (simp back_is at c.in_ok-read_order-in-Some.ensures) c.in_ok-op-in-Some.ensures
 
-pub returns-in_ok-read_order-2 : goal.returns-in_ok-read_order-2
-returns-in_ok-read_order-2 c =
-    an_own _ _ _ c.word_end-end.ensures (simp front_is at c.in-None.ensures) c.in_ok-read_order-2.ensures _ c.own_command.ensures
+pub returns-in_ok-read_order-in-None : goal.returns-in_ok-read_order-in-None
+returns-in_ok-read_order-in-None c =
+    an_own _ _ _ c.word_end-end.ensures (simp front_is at c.in-None.ensures) c.in_ok-read_order-in-None.ensures _ c.own_command.ensures

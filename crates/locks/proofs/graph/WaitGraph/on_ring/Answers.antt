@@ -1,4 +1,4 @@
-use Rattle.std.proofs.Common.{◌≡◌, ℕ, Bool, ap, ◌∙◌}
+use Rattle.std.proofs.Common.{ℕ, Bool, ap, ◌∙◌}
 use mathlib.Core.Path.{fun_ext}
 use Rattle.locks.specs.Graphs.{waits_in, reached}
 use Rattle.locks.proofs.graph.WaitGraph.on_ring.Goals as goal
