@@ -1,5 +1,5 @@
 -- What a deal was told is told again on any book in which the same is found wherever it looked.
-use Rattle.std.proofs.Common.{◌≡◌, ℕ, Bool, true, false, cond, not, ◌||◌, T, eqb, ltb, List, [], ◌∷◌, map, length, sym, refl, ap, ◌∙◌, inl, inr, eqb→eq, T_not}
+use Rattle.std.proofs.Common.{◌≡◌, ℕ, Bool, true, false, cond, not, ◌||◌, T, ltb, List, [], ◌∷◌, map, length, sym, refl, ap, ◌∙◌, inl, inr, eqb→eq, T_not}
 use lib.Dec.{eqb_refl}
 use Rattle.std.proofs.lemmas.List.{length-map}
 use Rattle.std.proofs.lemmas.Bool.{cases_Bool}

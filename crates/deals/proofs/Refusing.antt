@@ -5,7 +5,7 @@ use Rattle.deals.specs.declared.Op.{Op}
 use Rattle.deals.specs.declared.Op.TheVariants.{Get, Put, Drop, Next, Mark, Back, Commit, Undo}
 use Rattle.deals.specs.declared.Answer.TheVariants.{Done, Missing, Word, No}
 use Rattle.deals.specs.declared.refusals.Refusal.TheVariants.{NoMark, TooLong, NotBuilt}
-use Rattle.deals.specs.Deals.{Book, Said, step, from, word_of, pair_of, leaves, marks_of, told, ends, comes_to}
+use Rattle.deals.specs.Deals.{Book, Said, step, from, word_of, pair_of, leaves, marks_of, ends, comes_to}
 use Rattle.deals.specs.Refusals.{Refuses, not_built, too_long, no_mark, goes_on}
 
 clash : ◌≡◌ {A = ℕ} 0 1 → ⊥

@@ -1,5 +1,5 @@
 -- Who waits as deals stay and what is asked changes: who counts goes on counting until somebody is told.
-use Rattle.std.proofs.Common.{◌≡◌, ℕ, zero, suc, Bool, false, not, ◌&&◌, ◌||◌, T, eqb, ltb, List, [], sym, refl, ap, ◌∙◌, ap₂, inl, inr, T_not}
+use Rattle.std.proofs.Common.{◌≡◌, ℕ, zero, suc, Bool, false, not, ◌&&◌, ◌||◌, T, eqb, ltb, List, sym, refl, ap, ◌∙◌, ap₂, inl, inr, T_not}
 use mathlib.Core.Path.{fun_ext}
 use lib.Dec.{not_T}
 use Rattle.std.proofs.lemmas.Bool.{eq-eqb, ne_eqb, cases_eq}

@@ -1,4 +1,6 @@
 // The disk below, the clerks above, and the office between them.
+#![tactic(auto)]
+
 pub mod asked;
 pub mod desk;
 pub mod drive;

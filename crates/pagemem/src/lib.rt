@@ -1,4 +1,6 @@
 // A store of pages in memory over two lent slices, and trees in it. It never fails.
+#![tactic(auto)]
+
 ghost use Rattle.std.specs.Prelude.{◌≡◌, ℕ, ◌+◌, ◌-◌, ◌*◌, ◌<◌, ◌≤◌, List, [], ◌∷◌, length, drop, slice_index, slice_set};
 ghost use Rattle.node.specs.Layout.{page_words};
 ghost use Rattle.pagemem.specs.Memory.{page_at, mark_of, free, state_of, Kept, Filled, Good, pairs_in};

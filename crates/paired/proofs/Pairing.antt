@@ -1,12 +1,12 @@
 -- The book and its pairs go the same way.
-use Rattle.std.proofs.Common.{◌≡◌, ℕ, suc, ◌<◌, ◌≤◌, Bool, true, false, cond, eqb, ltb, List, [], ◌∷◌, ◌++◌, Some, None, Option, sym, refl, ap, ◌∙◌, subst, inl, inr, arith}
-use Rattle.std.proofs.lemmas.Bool.{cases_Bool, ltb-true, ltb-false, eqb-false, ne_eqb, lt-ltb, le-ltb}
+use Rattle.std.proofs.Common.{◌≡◌, ℕ, suc, ◌<◌, eqb, ltb, List, [], ◌∷◌, None, sym, refl, ap, ◌∙◌, subst, inl, inr, arith}
+use Rattle.std.proofs.lemmas.Bool.{cases_Bool, ltb-true, ltb-false, ne_eqb, lt-ltb, le-ltb}
 use Rattle.node.specs.Pairs as P
-use Rattle.deals.specs.Deals.{Book, below, from, keyless, word_of, pair_of}
-use Rattle.deals.specs.Books.{Up, find, two, put_in, drop_in, next_in}
+use Rattle.deals.specs.Deals.{below, from, keyless, word_of, pair_of}
+use Rattle.deals.specs.Books.{Up, find, two, drop_in}
 use Rattle.deals.specs.Writes.{Write, Puts, Drops, apply, onto}
 use Rattle.deals.proofs.Writes.{up_onto}
-use Rattle.paired.specs.Paired.{book_of, as_word, as_pair, written, with_writes, PutIs, DropIs, FindIs, NextIs, OntoIs}
+use Rattle.paired.specs.Paired.{book_of, as_word, written, PutIs, DropIs, FindIs, NextIs, OntoIs}
 
 -- keys that rise as pairs rise in the book
 pub rising_up : (lo hi : ℕ) (t : List (ℕ × ℕ)) → P.Up lo hi t → Up lo (book_of t)

@@ -1,5 +1,5 @@
 -- What a deal is told is what it sees.
-use Rattle.std.proofs.Common.{◌≡◌, ℕ, List, [], ◌∷◌, sym, refl, ap, ◌∙◌}
+use Rattle.std.proofs.Common.{◌≡◌, ℕ, List, [], ◌∷◌, refl, ap, ◌∙◌}
 use Rattle.node.specs.Pairs as P
 use Rattle.lines.specs.declared.line.Line.{Line}
 use Rattle.lines.specs.declared.line.Line.TheVariants.{Idle, Wrote, Cleared, Stale, Read, Scanned, Marked}
@@ -7,11 +7,10 @@ use Rattle.lines.specs.declared.ring.Ring.{Ring}
 use Rattle.lines.specs.Tables.{queue_lines}
 use Rattle.view.specs.Writes.{with_lines, Rising}
 use Rattle.view.proofs.Done.{rising_lines}
-use Rattle.deals.specs.Deals.{Book, Said, leaves, step}
+use Rattle.deals.specs.Deals.{Said, leaves, step}
 use Rattle.deals.specs.Books.{Up, find, next_in}
-use Rattle.deals.specs.Writes.{writes_in, onto}
+use Rattle.deals.specs.Writes.{writes_in}
 use Rattle.deals.specs.Tables.{Keeps, lines_in}
-use Rattle.deals.proofs.Writes.{up_onto}
 use Rattle.deals.proofs.Effects.{table_leaves}
 use Rattle.paired.specs.Paired.{book_of, with_writes}
 use Rattle.paired.specs.Told.{queued, seen, GetTold, DropTold, NextTold, LeavesTold}

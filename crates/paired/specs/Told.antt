@@ -1,12 +1,11 @@
 -- A deal whose lines stand in the room, on the book that the queue makes of the tree.
 use Rattle.std.specs.Prelude.{◌≡◌, ℕ, List, []}
 use Rattle.node.specs.Pairs.{find, above}
-use Rattle.lines.specs.declared.line.Line.{Line}
 use Rattle.lines.specs.declared.ring.Ring.{Ring}
 use Rattle.lines.specs.Tables.{queue_lines}
 use Rattle.view.specs.Writes.{with_lines, Rising}
 use Rattle.deals.specs.declared.Op.TheVariants.{Get, Drop, Next}
-use Rattle.deals.specs.Deals.{Book, Said, told, leaves}
+use Rattle.deals.specs.Deals.{Said, told, leaves}
 use Rattle.deals.specs.Tables.{Keeps, lines_in}
 use Rattle.paired.specs.Paired.{book_of, as_word, as_pair}
 

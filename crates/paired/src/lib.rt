@@ -1,4 +1,6 @@
 // The book as pairs, and what a deal is told as what it sees.
+#![tactic(auto)]
+
 ghost use Rattle.paired.specs.Paired.{PutIs, DropIs, FindIs, NextIs, OntoIs};
 ghost use Rattle.paired.specs.Told.{GetTold, DropTold, NextTold, LeavesTold};
 

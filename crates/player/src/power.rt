@@ -8,7 +8,7 @@ use memdisk::MemDisk;
 pub trait Cuts: Pages {
     // The power goes at the n-th asking from here on, at once for 0. False where no more cuts can be set.
     fn set_cut(&mut self, n: u64, choice: u64) -> bool
-        ensures { disk self.new ≡ (if nat_eq n 0 then unlit (disk self.old) else disk self.old) };
+        ensures { Self.disk self.new ≡ (if nat_eq n 0 then unlit (Self.disk self.old) else Self.disk self.old) };
 }
 
 impl Cuts for MemDisk<'_> {

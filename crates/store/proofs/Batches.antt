@@ -1,15 +1,14 @@
 -- The steps by which a batch is taken, one after the other.
-use Rattle.std.proofs.Common.{◌≡◌, ℕ, ◌+◌, ◌-◌, ◌*◌, ◌<◌, ◌≤◌, Bool, true, false, not, T, ◌⊎◌, List, [], ◌∷◌, length, get_or, drop, unwrap_or, sym, refl, ap, ◌∙◌, subst, inl, inr, ⊎_elim, arith}
-use Rattle.std.proofs.lemmas.List.{get_or-replicate}
+use Rattle.std.proofs.Common.{◌≡◌, ℕ, ◌<◌, ◌≤◌, Bool, true, false, not, T, ◌⊎◌, List, length, get_or, drop, unwrap_or, sym, refl, ap, ◌∙◌, subst, inl, inr, ⊎_elim, arith}
 use Rattle.frames.specs.Layout.{Cache, cache_of}
 use Rattle.frames.specs.Frames.{Sound as Framed, Clean, InPlace, page_in, pinned, entry_in, batch_page, batch_pages, batch_words, shown_by, settle, held}
 use Rattle.store.specs.declared.Store.{Store}
-use Rattle.store.specs.Medium.{Medium, at, over, WroteAll}
+use Rattle.store.specs.Medium.{Medium, over, WroteAll}
 use Rattle.store.specs.Head.{Head, head_of, Sound, taken, target, slot}
-use Rattle.store.specs.State.{State, queue_by, state_by, state_of, Same, Firm, Safe, Kept, Rested, Cut}
-use Rattle.store.specs.Store.{next_of, next, frames_of, cache, Next, Ready, Imaged, Intact, Lost, Either, Settled, Moved, took, worked, Taken}
+use Rattle.store.specs.State.{queue_by, state_by, state_of, Same, Firm, Safe, Kept, Cut}
+use Rattle.store.specs.Store.{next_of, next, frames_of, cache, Next, Ready, Imaged, Intact, Either, Settled, Moved, took, worked, Taken}
 use Rattle.store.proofs.Over.{at_other, over_same, wrote_same}
-use Rattle.store.proofs.Media.{by_head, same_trans, same_refl}
+use Rattle.store.proofs.Media.{by_head, same_trans}
 use Rattle.store.proofs.Installs.{installs_cut, installs_low, installs_state, installs_kept}
 use Rattle.store.proofs.Takes.{taken_sound, taken_firm, taken_state, took_safe, took_state, took_row}
 use Rattle.store.proofs.Cached.{length_pages, page_at_lem, batch_used, row_in_place, row_shown}

@@ -1,15 +1,15 @@
 -- The store comes up.
-use Rattle.std.proofs.Common.{◌≡◌, ℕ, ◌+◌, ◌*◌, ◌<◌, ◌≤◌, Bool, true, false, not, T, List, [], ◌∷◌, length, get_or, sym, refl, ap, ◌∙◌, subst, arith}
+use Rattle.std.proofs.Common.{◌≡◌, ℕ, ◌<◌, ◌≤◌, Bool, true, false, not, T, List, length, sym, refl, ap, ◌∙◌, subst, arith}
 use mathlib.Core.List.{Memᴰ}
 use Rattle.std.proofs.lemmas.List.{get_or-replicate}
-use Rattle.frames.specs.Layout.{Cache, cache_of, cleared}
+use Rattle.frames.specs.Layout.{Cache, cleared}
 use Rattle.frames.specs.Frames.{Sound as Framed, Clean, page_in, pinned, shown_by}
 use Rattle.store.specs.declared.Store.{Store}
-use Rattle.store.specs.Medium.{Medium, Stays, Reads, WroteAll}
+use Rattle.store.specs.Medium.{Medium, Reads, WroteAll}
 use Rattle.store.specs.Head.{Head, head_of, Sound, slot, target, stamped}
-use Rattle.store.specs.State.{State, queue_by, state_of, Same, Relies, Firm, Safe, Kept, Rested, Cut}
+use Rattle.store.specs.State.{State, queue_by, state_of, Same, Relies, Safe, Kept, Rested}
 use Rattle.store.specs.Store.{next_of, next, frames_of, cache, Next, Ready, Intact, Lost, Opened}
-use Rattle.store.proofs.Media.{same_trans, cut_old, rested_safe}
+use Rattle.store.proofs.Media.{cut_old, rested_safe}
 use Rattle.store.proofs.Installs.{installs_cut, installs_low, installs_state, installs_kept}
 
 -- a read leaves a disk at rest as it is

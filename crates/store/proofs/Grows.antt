@@ -1,18 +1,18 @@
 -- The next head gains records, and a page of the ring.
-use Rattle.std.proofs.Common.{◌≡◌, ℕ, zero, suc, ◌+◌, ◌-◌, ◌*◌, ◌%◌, ◌<◌, ◌≤◌, Bool, true, false, cond, not, T, ◌⊎◌, List, [], ◌∷◌, ◌++◌, length, get_or, take, drop, sym, refl, ap, ◌∙◌, subst, inl, inr, ⊎_elim, append_assoc, append-nil, add-one, arith, length-append, length-drop}
+use Rattle.std.proofs.Common.{◌≡◌, ℕ, zero, suc, ◌+◌, ◌-◌, ◌*◌, ◌%◌, ◌<◌, ◌≤◌, Bool, true, false, not, T, ◌⊎◌, List, [], ◌∷◌, ◌++◌, length, drop, sym, refl, ap, ◌∙◌, subst, inl, inr, append_assoc, append-nil, add-one, arith, length-append, length-drop}
 use mathlib.Core.List.{Memᴰ}
 use lib.Seq.{drop-append-le}
 use Rattle.store.specs.declared.head.Record.{Record}
 use Rattle.store.specs.declared.Store.{Store}
-use Rattle.frames.specs.Layout.{Cache, cache_of}
+use Rattle.frames.specs.Layout.{cache_of}
 use Rattle.frames.specs.Frames.{Sound as Framed, Clean, page_in, pinned, batch_words}
-use Rattle.store.specs.Medium.{Medium, at, over, Stays, Wrote, Synced, Back}
-use Rattle.store.specs.Head.{Head, head_of, Sound, records_in, slot, slot_in, ring_page, target, joined, turned}
-use Rattle.store.specs.State.{State, rows, queue_by, page_by, state_by, state_of, Same, Relies, Firm, Safe, Kept, Rested, Cut}
+use Rattle.store.specs.Medium.{Medium, Stays, Wrote}
+use Rattle.store.specs.Head.{Head, head_of, Sound, records_in, slot_in, ring_page, joined, turned}
+use Rattle.store.specs.State.{rows, queue_by, state_of, Same, Relies, Kept}
 use Rattle.store.specs.Store.{next_of, next, frames_of, cache, Intact, Next, Ready, Imaged, Held, Lost, with_fresh, Roomy, Appended}
 use Rattle.store.proofs.Words.{length_records_in, own_words}
-use Rattle.store.proofs.Over.{at_here, at_other, over_agree}
-use Rattle.store.proofs.Media.{same_refl, agree, by_head, same_trans, relies_near, rows_agree, cut_old, safe_like}
+use Rattle.store.proofs.Over.{at_here, at_other}
+use Rattle.store.proofs.Media.{same_refl, agree, by_head, same_trans, rows_agree, cut_old, safe_like}
 
 pub length_rows : (k : ℕ) (f : ℕ → List ℕ) → length (rows k f) ≡ 128 * k
 unfolding rows

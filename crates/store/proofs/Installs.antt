@@ -1,9 +1,8 @@
 -- The pages of the head's batch are put where they belong, from its slots, after a seal or after the power came back.
-use Rattle.std.proofs.Common.{◌≡◌, ℕ, ◌+◌, ◌*◌, ◌<◌, ◌≤◌, Bool, true, false, not, T, List, length, get_or, sym, refl, ap, ◌∙◌, subst, arith}
-use mathlib.Core.List.{Memᴰ}
+use Rattle.std.proofs.Common.{◌≡◌, ℕ, ◌+◌, ◌<◌, Bool, true, not, T, List, length, sym, ap, ◌∙◌, subst, arith}
 use Rattle.store.specs.Medium.{Medium, Stays, Wrote, WroteAll}
 use Rattle.store.specs.Head.{Head, head_of, Sound, slot, target}
-use Rattle.store.specs.State.{State, page_by, state_by, state_of, Same, Relies, Safe, Kept}
+use Rattle.store.specs.State.{state_of, Same, Relies, Safe, Kept}
 use Rattle.store.specs.Store.{Lost}
 use Rattle.store.proofs.Over.{over_miss, wrote_more}
 use Rattle.store.proofs.Media.{agree, by_head, same_trans, cut_old, safe_like}

@@ -1,14 +1,14 @@
 -- What lasts by a sync, and by a head that is written.
-use Rattle.std.proofs.Common.{◌≡◌, ℕ, zero, suc, ◌+◌, ◌-◌, ◌*◌, ◌%◌, ◌<◌, ◌≤◌, Bool, true, false, cond, not, ◌&&◌, ◌||◌, T, ◌⊎◌, List, [], ◌∷◌, ◌++◌, length, get_or, take, drop, sym, refl, ap, ◌∙◌, subst, inl, inr, ⊎_elim, arith}
+use Rattle.std.proofs.Common.{◌≡◌, ℕ, ◌-◌, ◌<◌, ◌≤◌, Bool, true, false, not, ◌&&◌, ◌||◌, T, List, length, get_or, sym, refl, ap, ◌∙◌, subst, inl, inr, ⊎_elim, arith}
 use mathlib.Core.List.{Memᴰ}
 use Rattle.store.specs.declared.Store.{Store}
-use Rattle.store.specs.Medium.{Medium, at, over, Stays, Wrote, Synced, Back}
-use Rattle.store.specs.Head.{Head, head_of, Sound, slot, slot_in, ring_page, target}
-use Rattle.store.specs.State.{State, rows, queue_by, page_by, state_by, state_of, Same, Relies, Firm, Safe, Kept, Rested, Cut}
-use Rattle.store.specs.Store.{next_of, next, Next, Ready, Imaged, Lost, Either, Intact, Settled, Settles, Moved, Moves, Sealed}
-use Rattle.store.proofs.Over.{at_here, at_other, over_agree}
+use Rattle.store.specs.Medium.{Medium, over, Stays, Wrote, Synced}
+use Rattle.store.specs.Head.{Head, head_of, Sound, slot_in, target}
+use Rattle.store.specs.State.{State, page_by, state_by, state_of, Same, Firm, Kept}
+use Rattle.store.specs.Store.{next_of, next, Next, Ready, Imaged, Lost, Either, Intact, Settled, Moved, Moves, Sealed}
+use Rattle.store.proofs.Over.{at_other}
 use Rattle.store.proofs.Grows.{intact_after}
-use Rattle.store.proofs.Media.{same_refl, agree, by_head, same_trans, relies_near, cut_old, cut_either, safe_like}
+use Rattle.store.proofs.Media.{agree, by_head, same_trans, relies_near, cut_old, cut_either, safe_like}
 
 all_kept : (m e : Medium) → Kept m → e.pages ≡ m.pages → e.shown ≡ m.shown → ((q : ℕ) → Stays e q (m.shown q)) → Kept e
 all_kept m e k n s all = record {

@@ -1,11 +1,10 @@
 -- What a disk means stays the same, whatever a cut leaves of pages that its head doesn't count on.
-use Rattle.std.proofs.Common.{◌≡◌, ℕ, zero, suc, ◌+◌, ◌-◌, ◌*◌, ◌%◌, ◌<◌, ◌≤◌, Bool, true, false, cond, not, T, ◌⊎◌, List, [], ◌∷◌, ◌++◌, length, get_or, take, drop, replicate, sym, refl, ap, ◌∙◌, subst, inl, inr, ⊎_elim, arith}
+use Rattle.std.proofs.Common.{◌≡◌, ℕ, zero, suc, ◌<◌, ◌≤◌, false, ◌⊎◌, List, ◌++◌, length, drop, sym, refl, ap, ◌∙◌, subst, inl, inr, ⊎_elim, arith}
 use mathlib.Core.List.{Memᴰ}
-use Rattle.store.specs.declared.head.Record.{Record}
-use Rattle.store.specs.Medium.{Medium, at, over, Stays, Reads, Wrote, Synced, WroteAll, Back, Blank}
+use Rattle.store.specs.Medium.{Medium, over, Stays, Back, Blank}
 use Rattle.store.specs.Head.{Head, head_of, Sound, records_in, slot, ring_page, target}
-use Rattle.store.specs.State.{State, rows, queue_by, page_by, state_by, state_of, Same, Relies, Firm, Safe, Installed, Kept, Rested, Cut, empty}
-use Rattle.store.proofs.Over.{at_here, at_other, over_agree, over_miss}
+use Rattle.store.specs.State.{State, rows, state_by, state_of, Same, Relies, Safe, Rested, Cut, empty}
+use Rattle.store.proofs.Over.{over_agree}
 
 pub same_refl : {n : ℕ} (x : State) → Same n x x
 same_refl x = record { root = refl; queue = refl; page = λ p _ _. refl }

@@ -1,12 +1,11 @@
 -- Images are written to the region that the head doesn't name.
-use Rattle.std.proofs.Common.{◌≡◌, ℕ, ◌+◌, ◌-◌, ◌*◌, ◌%◌, ◌<◌, ◌≤◌, Bool, true, false, not, T, List, length, sym, refl, ap, ◌∙◌, subst, arith}
-use mathlib.Core.List.{Memᴰ}
+use Rattle.std.proofs.Common.{◌≡◌, ℕ, ◌-◌, ◌<◌, ◌≤◌, Bool, true, false, not, T, List, sym, refl, ap, ◌∙◌, subst, arith}
 use Rattle.frames.specs.Frames.{batch_words}
 use Rattle.store.specs.declared.Store.{Store}
 use Rattle.store.specs.Medium.{Medium, Stays, WroteAll}
-use Rattle.store.specs.Head.{Head, head_of, Sound, slot, slot_in, ring_page, target}
-use Rattle.store.specs.State.{State, page_by, state_by, state_of, Same, Relies, Firm, Safe, Kept}
-use Rattle.store.specs.Store.{next, cache, Next, Ready, Imaged, Intact, Lost, Shot}
+use Rattle.store.specs.Head.{Head, head_of, Sound, slot_in}
+use Rattle.store.specs.State.{state_of, Same, Relies, Safe}
+use Rattle.store.specs.Store.{next, cache, Next, Ready, Intact, Lost, Shot}
 use Rattle.store.proofs.Over.{over_miss, over_hit}
 use Rattle.store.proofs.Media.{agree, by_head, same_trans, cut_old, safe_like}
 use Rattle.store.proofs.Grows.{intact_after}

@@ -1,15 +1,12 @@
 -- A batch is taken: the head that names it, and its pages put where they belong.
-use Rattle.std.proofs.Common.{◌≡◌, ℕ, zero, suc, ◌+◌, ◌-◌, ◌*◌, ◌/◌, ◌%◌, ◌<◌, ◌≤◌, min, Bool, true, false, cond, not, T, ◌⊎◌, List, [], ◌∷◌, ◌++◌, length, get_or, take, drop, sym, refl, ap, ◌∙◌, subst, inl, inr, ⊎_elim, append_assoc, append-nil, add-zero, add-suc, add-one, arith, length-append, length-drop, drop-drop}
-use mathlib.Core.List.{Memᴰ}
+use Rattle.std.proofs.Common.{◌≡◌, ℕ, zero, suc, ◌+◌, ◌-◌, ◌*◌, ◌%◌, ◌<◌, ◌≤◌, Bool, true, false, List, ◌++◌, length, get_or, drop, sym, refl, ap, ◌∙◌, subst, append_assoc, append-nil, add-zero, add-suc, arith, drop-drop}
 use lib.Seq.{drop-append-add}
-use Rattle.store.specs.declared.head.Record.{Record}
 use Rattle.store.specs.declared.head.Root.{Root}
-use Rattle.store.specs.Medium.{Medium, at, over, Stays, Wrote, WroteAll, Synced, Back}
+use Rattle.store.specs.Medium.{Medium, Stays, WroteAll}
 use Rattle.store.specs.Head.{Head, head_of, Sound, records_in, slot, slot_in, ring_page, target, wholly, freed, taken}
-use Rattle.store.specs.State.{State, rows, queue_by, page_by, state_by, state_of, Same, Relies, Firm, Safe, Kept, Rested, Cut}
-use Rattle.store.specs.Store.{Next, Ready, Imaged, Moved, took}
-use Rattle.store.proofs.Words.{length_records_in}
-use Rattle.store.proofs.Over.{at_here, at_other, over_agree, wrote_same}
+use Rattle.store.specs.State.{rows, queue_by, state_by, state_of, Same, Relies, Firm, Safe}
+use Rattle.store.specs.Store.{Ready, Imaged, Moved, took}
+use Rattle.store.proofs.Over.{at_other, over_agree, wrote_same}
 use Rattle.store.proofs.Media.{agree, by_head, same_trans, relies_near, rows_agree}
 use Rattle.store.proofs.Grows.{length_rows, length_queue}
 

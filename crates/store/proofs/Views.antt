@@ -1,18 +1,16 @@
 -- Reading leaves the store as it is.
-use Rattle.std.proofs.Common.{◌≡◌, ℕ, ◌+◌, ◌-◌, ◌<◌, ◌≤◌, Bool, true, false, not, T, List, [], ◌∷◌, length, get_or, set, Some, None, sym, refl, ap, ◌∙◌, subst, ⊎_elim, arith, get_or-set_other, get_or-set_same}
-use mathlib.Core.List.{Memᴰ}
+use Rattle.std.proofs.Common.{◌≡◌, ℕ, ◌+◌, ◌<◌, ◌≤◌, Bool, true, false, not, T, List, length, get_or, set, Some, None, sym, refl, ap, ◌∙◌, subst, ⊎_elim, arith, get_or-set_other, get_or-set_same}
 use Rattle.std.proofs.lemmas.Bool.{cases_eq, eq-eqb, ne_eqb}
 use Rattle.frames.specs.Layout.{Cache, cache_of}
-use Rattle.frames.specs.Frames.{Sound as Framed, Clean, Idle, page_in, mark_in, entry_in, pinned, batch_words, shown_by, slot_of, fill, enter, list, write}
+use Rattle.frames.specs.Frames.{Sound as Framed, Clean, Idle, page_in, mark_in, entry_in, pinned, batch_words, shown_by, slot_of, fill, enter}
 use Rattle.frames.specs.Layout.{frame_in}
 use Rattle.frames.proofs.Slots.{rows, frame_other}
 use Rattle.frames.proofs.Shown.{shown_frame, shown_disk}
 use Rattle.store.specs.declared.Store.{Store}
 use Rattle.store.specs.declared.head.Root.{Root}
-use Rattle.store.specs.Medium.{Medium, Stays, Reads, at}
-use Rattle.store.specs.Head.{Head, head_of, slot_in}
-use Rattle.store.specs.State.{Safe, Kept}
-use Rattle.store.specs.Store.{next_of, next, frames_of, cache, Next, Ready, Imaged, Intact, Looked, Got, Staged, Given, with_free, with_used}
+use Rattle.store.specs.Medium.{Medium, Reads}
+use Rattle.store.specs.Head.{head_of}
+use Rattle.store.specs.Store.{next_of, next, frames_of, cache, Ready, Imaged, Intact, Looked, Got, Given, with_free, with_used}
 
 -- a disk that differs only in whether it's on, and how often it may be asked
 module _ (m : Medium) (on' : Bool) (left' : ℕ) where

@@ -1,5 +1,5 @@
 -- What is known of a device: its pages, what a power cut may leave of each, and how often it may still be asked.
-use Rattle.std.specs.Prelude.{◌≡◌, ℕ, zero, suc, ◌+◌, ◌<◌, ◌≤◌, Bool, true, false, cond, not, T, ◌⊎◌, List, [], ◌∷◌, replicate, ◌==◌, ◌≢◌}
+use Rattle.std.specs.Prelude.{◌≡◌, ℕ, zero, suc, ◌+◌, ◌<◌, ◌≤◌, Bool, true, false, cond, not, T, ◌⊎◌, List, replicate, ◌==◌, ◌≢◌}
 use mathlib.Core.List.{Memᴰ}
 
 -- shown: what is read; may: what a cut may leave, of each page for itself

@@ -1,6 +1,5 @@
 -- What a disk means, and what a cut may leave of it.
-use Rattle.std.specs.Prelude.{◌≡◌, ℕ, zero, suc, ◌+◌, ◌-◌, ◌*◌, ◌<◌, ◌≤◌, Bool, true, false, cond, not, T, ◌⊎◌, List, [], ◌∷◌, ◌++◌, length, drop, replicate, ◌≢◌}
-use mathlib.Core.List.{Memᴰ}
+use Rattle.std.specs.Prelude.{◌≡◌, ℕ, zero, suc, ◌<◌, ◌≤◌, false, List, [], ◌++◌, length, drop, replicate, ◌≢◌}
 use Rattle.store.specs.declared.head.Record.{Record}
 use Rattle.store.specs.declared.head.Root.{Root}
 use Rattle.store.specs.Medium.{Medium, Stays, Back, over}

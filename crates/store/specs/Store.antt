@@ -1,14 +1,13 @@
 -- What stands between two calls, and what each call does to it.
-use Rattle.std.specs.Prelude.{◌≡◌, ℕ, zero, suc, ◌+◌, ◌-◌, ◌*◌, ◌<◌, ◌≤◌, Bool, true, false, cond, not, T, ◌⊎◌, List, [], ◌∷◌, ◌++◌, length, take, drop, ◌≢◌, slice_index}
-use mathlib.Core.List.{Memᴰ}
+use Rattle.std.specs.Prelude.{◌≡◌, ℕ, ◌+◌, ◌-◌, ◌<◌, ◌≤◌, Bool, true, false, not, T, ◌⊎◌, List, [], ◌∷◌, ◌++◌, length, take, drop, ◌≢◌, slice_index}
 use Rattle.store.specs.declared.head.Record.{Record}
 use Rattle.store.specs.declared.head.Root.{Root}
 use Rattle.store.specs.declared.Store.{Store}
 use Rattle.frames.specs.Layout.{Cache, cache_of}
 use Rattle.frames.specs.Frames.{Sound as Framed, Clean, page_in, pinned, batch_words, shown_by}
-use Rattle.store.specs.Medium.{Medium, Stays, Back, at, over}
-use Rattle.store.specs.Head.{Head, head_of, Sound, slot_in, ring_page, target}
-use Rattle.store.specs.State.{State, queue_by, state_by, state_of, Same, Firm, Kept, Rested, Cut}
+use Rattle.store.specs.Medium.{Medium, Stays, at, over}
+use Rattle.store.specs.Head.{Head, head_of, Sound, slot_in}
+use Rattle.store.specs.State.{State, queue_by, state_by, state_of, Same, Firm, Kept, Cut}
 
 -- the parts of the lent slice: frames, the next head, a page to read into
 abbrev pub frames_of : List ℕ → List ℕ

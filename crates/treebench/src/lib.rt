@@ -1,5 +1,7 @@
 // The tree in memory for other languages: a slice crosses as a pointer and then its length.
 // The caller asks for nothing before tree_set_up, and leaves what it lends alone between the calls.
+#![tactic(auto)]
+
 ghost use Rattle.std.specs.Prelude.{◌≡◌, ℕ, ◌-◌, ◌*◌, ◌<◌, ◌≤◌, length};
 ghost use Rattle.node.specs.Layout.{page_words};
 ghost use Rattle.node.specs.Pairs.{find};

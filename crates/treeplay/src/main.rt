@@ -1,4 +1,6 @@
 // Plays long rows of puts, drops, gets and nexts on a tree in memory, against a list that holds, by key, the word and one more, or 0.
+#![tactic(auto)]
+
 ghost use Rattle.std.specs.Prelude.{◌≡◌, ℕ, ◌+◌, ◌-◌, ◌*◌, ◌<◌, ◌≤◌, true, length};
 ghost use Rattle.treeplay.specs.Played.{Ready};
 

@@ -1,5 +1,5 @@
 -- Askings added up.
-use Rattle.std.proofs.Common.{◌≡◌, ℕ, ◌+◌, ◌≤◌, refl, ◌∙◌, arith}
+use Rattle.std.proofs.Common.{ℕ, ◌+◌, ◌≤◌, refl, ◌∙◌, arith}
 use Rattle.view.specs.Asks.{Asks, Spent}
 
 pub spent_none : (n : ℕ) (a : Asks) → Spent n a a

@@ -1,13 +1,11 @@
 -- The writes of a deal at the end of the queue: what they leave of the pairs.
-use Rattle.std.proofs.Common.{◌≡◌, ℕ, suc, ◌+◌, ◌*◌, ◌<◌, ◌≤◌, Bool, true, false, cond, ◌⊎◌, List, [], ◌∷◌, ◌++◌, length, get_or, take, drop, filter, sym, refl, ap, ◌∙◌, ap₂, inl, inr, arith}
-use Rattle.std.specs.List.{AllByRecursion as All}
-use Rattle.std.proofs.lemmas.List.{append_assoc, append-nil, length-append, length_push, take-append-drop, take_all, drop_more}
+use Rattle.std.proofs.Common.{◌≡◌, ℕ, ◌+◌, ◌*◌, ◌<◌, ◌≤◌, true, false, cond, List, [], ◌∷◌, ◌++◌, length, get_or, take, drop, sym, refl, ap, ◌∙◌, arith}
+use Rattle.std.proofs.lemmas.List.{append_assoc, append-nil, length-append, take-append-drop, take_all, drop_more}
 use Rattle.std.proofs.lemmas.List.Elements.{filter-append, filter_more}
 use Rattle.std.proofs.ByRecursion.{All-append, all_kept_by}
 use Rattle.lines.specs.declared.line.Line.{Line}
 use Rattle.lines.specs.declared.line.Line.TheVariants.{Idle, Wrote, Cleared, Stale, Read, Scanned, Marked}
-use Rattle.node.specs.Pairs.{put_in, drop_in}
-use Rattle.view.specs.Writes.{Write, Puts, Drops, writes_in, onto, with_lines}
+use Rattle.view.specs.Writes.{Puts, Drops, writes_in, onto, with_lines}
 use Rattle.lines.specs.declared.ring.Ring.{Ring}
 use Rattle.lines.specs.Tables.{deal_ring, deal_lines, queue_lines, QueueIn, OnlyQueue}
 use Rattle.lines.proofs.Circle.{length_lines}

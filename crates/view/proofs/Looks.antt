@@ -1,15 +1,15 @@
 -- What lines say of a key, one line more; and what is found by their writes.
-use Rattle.std.proofs.Common.{◌≡◌, ℕ, ◌+◌, ◌-◌, ◌<◌, ◌≤◌, Bool, true, false, cond, eqb, ◌⊎◌, List, [], ◌∷◌, ◌++◌, length, get_or, take, Some, None, Option, sym, refl, ap, ◌∙◌, inl, inr, arith}
+use Rattle.std.proofs.Common.{◌≡◌, ℕ, ◌+◌, ◌-◌, ◌<◌, ◌≤◌, true, false, eqb, List, [], ◌∷◌, ◌++◌, length, get_or, take, Option, sym, refl, ap, ◌∙◌, inl, inr, arith}
 use Rattle.std.proofs.lemmas.List.{take_more}
 use Rattle.std.specs.List.{AllByRecursion as All}
-use Rattle.std.proofs.lemmas.Bool.{cases_Bool, cases_eq, eq-eqb, ne_eqb, eqb-true, both_ways}
+use Rattle.std.proofs.lemmas.Bool.{cases_Bool, ne_eqb, eqb-true, both_ways}
 use Rattle.node.specs.Pairs.{find}
 use Rattle.lines.specs.declared.line.Line.{Line}
 use Rattle.lines.specs.declared.line.Line.TheVariants.{Idle, Wrote, Cleared, Stale, Read, Scanned, Marked}
 use Rattle.view.specs.declared.seen.Seen.{Seen}
 use Rattle.view.specs.declared.seen.Seen.TheVariants.{There, Away, Unknown}
-use Rattle.view.specs.Writes.{Write, Puts, Drops, writes_in, with_lines, Rising}
-use Rattle.view.specs.Sight.{seen_line, seen_in, is_silent, as_found, settled_by, is_there, says, viewed}
+use Rattle.view.specs.Writes.{Puts, Drops, writes_in, with_lines, Rising}
+use Rattle.view.specs.Sight.{seen_line, seen_in, is_silent, as_found, is_there, says, viewed}
 use Rattle.view.proofs.Found.{Pairs}
 use Rattle.view.proofs.Done.{written, last_written, find_onto, rising_lines}
 use Rattle.view.specs.Upkeep.{next_key, LineOk, SuccOk}

@@ -1,5 +1,5 @@
 -- The next key that a deal sees: the walk over dropped keys, and the least that lines put.
-use Rattle.std.proofs.Common.{◌≡◌, ℕ, suc, ◌+◌, ◌-◌, ◌^◌, ◌<◌, ◌≤◌, Bool, true, false, cond, ◌&&◌, eqb, ltb, ◌⊎◌, List, [], ◌∷◌, ◌++◌, length, Some, None, Option, sym, refl, ap, ◌∙◌, subst, inl, inr, arith}
+use Rattle.std.proofs.Common.{◌≡◌, ℕ, ◌^◌, ◌<◌, true, false, ◌&&◌, ltb, List, [], ◌∷◌, Some, None, Option, sym, refl, ap, ◌∙◌, subst, inl, inr, arith}
 use Rattle.std.specs.List.{AllByRecursion as All}
 use Rattle.std.proofs.ByRecursion.{All-weaker}
 use Rattle.std.proofs.lemmas.Bool.{cases_Bool, cases_order, and_parts, and_cases, ltb-true, ltb-false, both_ways}
@@ -12,7 +12,7 @@ use Rattle.view.specs.Writes.{with_lines, Rising}
 use Rattle.view.specs.Sight.{as_found, settled_by, is_there, says, viewed}
 use Rattle.view.specs.Upkeep.{key_of, next_key, SuccOk}
 use Rattle.view.specs.Nexts.{is_away, Walked, ends, stays, goes, Rises, under, least_line, least_in, Onward, ahead}
-use Rattle.view.proofs.Found.{Pairs, IsNext, none, some, next_only, next_by, above_is}
+use Rattle.view.proofs.Found.{Pairs, IsNext, none, some, above_is}
 use Rattle.view.proofs.Done.{rising_lines}
 use Rattle.view.proofs.Looks.{SeenOk, ok_says, NoPut, no_says, viewed_found}
 use Rattle.view.proofs.Upkeeps.{IsKey, end, at, key_only, key_is}

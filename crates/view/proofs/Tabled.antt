@@ -2,7 +2,7 @@
 use Rattle.std.proofs.Common.{◌≡◌, ℕ, List, length, sym, ◌∙◌, subst}
 use Rattle.lines.specs.declared.line.Line.{Line}
 use Rattle.lines.specs.declared.ring.Ring.{Ring}
-use Rattle.lines.specs.Tables.{tables, DealIn, QueueIn}
+use Rattle.lines.specs.Tables.{tables, QueueIn}
 use Rattle.lines.proofs.Parts.{same_deals, same_queue}
 use Rattle.view.specs.declared.seen.View.{View}
 use Rattle.view.specs.Room.{Stands, own_of, queue_of, pairs_seen}

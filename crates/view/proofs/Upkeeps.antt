@@ -1,17 +1,14 @@
 -- The first key above another, in pairs that gain a key or lose one; and the lines that keep it.
-use Rattle.std.proofs.Common.{◌≡◌, ℕ, zero, suc, ◌<◌, ◌≤◌, Bool, true, false, cond, ◌&&◌, eqb, ltb, ◌⊎◌, List, [], ◌∷◌, ◌++◌, map, Some, None, Option, sym, refl, ap, ◌∙◌, inl, inr, arith}
-use Rattle.std.specs.List.{AllByRecursion as All}
+use Rattle.std.proofs.Common.{◌≡◌, ℕ, zero, suc, ◌<◌, List, [], ◌∷◌, ◌++◌, map, Some, None, Option, sym, refl, ap, ◌∙◌, inl, inr, arith}
 use Rattle.std.proofs.ByRecursion.{All-map, All-weaker, All-push}
 use Rattle.std.proofs.lemmas.Bool.{cases_lt, cases_eq, cases_order, lt-ltb, le-ltb, eq-eqb, ne_eqb}
 use Rattle.lines.specs.declared.line.Line.{Line}
 use Rattle.lines.specs.declared.line.Line.TheVariants.{Idle, Wrote, Cleared, Stale, Read, Scanned, Marked}
 use Rattle.lines.specs.Marks.{stale, backed}
 use Rattle.view.specs.declared.kept.Change.{Change}
-use Rattle.view.specs.declared.kept.Change.TheVariants.{Gained, Lost, Still}
 use Rattle.node.specs.Pairs.{find, above, put_in, drop_in}
 use Rattle.view.specs.Writes.{Puts, Drops, onto, writes_in, with_lines, Rising}
 use Rattle.view.proofs.Found.{Pairs, IsNext, none, some, above_is, rising_put, rising_drop, find_put_same, find_put_other, find_drop_same, find_drop_other}
-use Rattle.view.proofs.Done.{rising_lines, lines_front}
 use Rattle.view.specs.Upkeep.{key_of, next_key, gained, lost, change_by, kept_succ, kept_by, LineOk, SuccOk}
 
 -- the first key above k at which something is found

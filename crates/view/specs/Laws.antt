@@ -7,7 +7,7 @@ use Rattle.lines.specs.Marks.{backed}
 use Rattle.view.specs.declared.kept.Change.{Change}
 use Rattle.view.specs.Writes.{with_lines, Rising}
 use Rattle.view.specs.Sight.{viewed}
-use Rattle.view.specs.Upkeep.{next_key, gained, lost, change_by, kept_by, LineOk, SuccOk}
+use Rattle.view.specs.Upkeep.{change_by, kept_by, LineOk, SuccOk}
 use Rattle.view.specs.Adds.{writing}
 
 abbrev pub Pairs : Type 0

@@ -1,5 +1,5 @@
 -- The tree's first key above a dropped one, and how it is kept while the tree changes.
-use Rattle.std.specs.Prelude.{◌≡◌, ℕ, Bool, true, false, cond, ◌&&◌, List, Some, None, Option, ◌==◌, nat_lt}
+use Rattle.std.specs.Prelude.{◌≡◌, ℕ, cond, ◌&&◌, List, Some, None, Option, ◌==◌, nat_lt}
 use Rattle.std.specs.List.{AllByRecursion as All}
 use Rattle.node.specs.Pairs.{above}
 use Rattle.lines.specs.declared.line.Line.{Line}

@@ -1,4 +1,6 @@
 // What a deal sees: its own lines, the queue of committed writes, and the tree under them.
+#![tactic(auto)]
+
 pub mod apply;
 pub mod commit;
 pub mod index;

@@ -1,4 +1,6 @@
 // Deals that see their own lines, the queue and the tree: played on an index in memory.
+#![tactic(auto)]
+
 ghost use Rattle.std.specs.Prelude.{◌≡◌, []};
 
 mod pairs;

@@ -1,10 +1,9 @@
-use Rattle.std.proofs.Common.{◌≡◌, ℕ, ◌+◌, ◌<◌, ◌≤◌, List, length, get_or, sum, sym, ap, ◌∙◌, subst, arith}
+use Rattle.std.proofs.Common.{◌≡◌, ℕ, ◌+◌, ◌<◌, ◌≤◌, List, length, get_or, sum, sym, ap, ◌∙◌, subst}
 use Rattle.frames.specs.Layout.{Cache, cache_of}
-use Rattle.frames.specs.Frames.{Sound as Framed, Clean, page_in, pinned, shown_by, fill}
-use Rattle.frames.proofs.Slots.{rows}
-use Rattle.store.specs.Store.{frames_of, cache}
+use Rattle.frames.specs.Frames.{Sound as Framed, Clean, pinned, shown_by}
+use Rattle.store.specs.Store.{cache}
 use Rattle.store.proofs.Places.{length_frames, frames_frames, frames_next, frames_long}
-use Rattle.store.proofs.Views.{entered_like, intact_changed, plain_set}
+use Rattle.store.proofs.Views.{entered_like, intact_changed}
 use Rattle.store.proofs.change_in.Goals as goal
 
 pub slice_bounds-change-end-2 : goal.slice_bounds-change-end-2

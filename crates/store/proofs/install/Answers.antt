@@ -1,9 +1,8 @@
-use Rattle.std.proofs.Common.{◌≡◌, sym, refl, ap, ◌∙◌, arith}
+use Rattle.std.proofs.Common.{refl, ap, ◌∙◌, arith}
 use Rattle.std.proofs.lemmas.Result.{err_from_is_err_and}
 use Rattle.frames.specs.Layout.{frame_in}
 use Rattle.store.specs.Store.{cache}
 use Rattle.store.proofs.Over.{wrote_none, wrote_part, wrote_all, wrote_more}
-use Rattle.store.proofs.Places.{length_frames}
 use Rattle.store.proofs.install.Goals as goal
 
 pub loop-k-init : goal.loop-k-init

@@ -1,7 +1,6 @@
 use Rattle.std.proofs.Common.{◌≡◌, ℕ, List, length, sym, ap, ◌∙◌, subst}
 use Rattle.frames.specs.Layout.{Cache, cache_of}
 use Rattle.frames.specs.Frames.{Sound as Framed, Clean, shown_by}
-use Rattle.store.specs.Store.{cache}
 use Rattle.store.proofs.Places.{length_frames, frames_frames, frames_next, frames_long}
 use Rattle.store.proofs.Views.{intact_filled}
 use Rattle.store.proofs.keep_in.Goals as goal

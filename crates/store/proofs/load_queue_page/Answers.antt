@@ -1,4 +1,4 @@
-use Rattle.std.proofs.Common.{◌≡◌, ℕ, is_ok, ◌∙◌, subst, arith}
+use Rattle.std.proofs.Common.{ℕ, is_ok, ◌∙◌, subst, arith}
 use Rattle.store.specs.Medium.{Reads}
 use Rattle.store.specs.Store.{scratch_of}
 use Rattle.store.proofs.Places.{length_next}

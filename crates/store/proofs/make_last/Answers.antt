@@ -1,6 +1,5 @@
-use Rattle.std.proofs.Common.{sym, ◌∙◌}
 use Rattle.std.proofs.lemmas.Result.{err_from_is_err_and}
-use Rattle.store.proofs.Lasts.{settled_before, settled_synced, settle_lost}
+use Rattle.store.proofs.Lasts.{settled_synced, settle_lost}
 use Rattle.store.proofs.make_last.Goals as goal
 
 pub returns-in_err-sync : goal.returns-in_err-sync

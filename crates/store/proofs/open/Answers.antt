@@ -1,9 +1,8 @@
-use Rattle.std.proofs.Common.{◌≡◌, ℕ, ◌≤◌, true, false, List, length, sym, refl, ap, ◌∙◌, subst, arith}
+use Rattle.std.proofs.Common.{ℕ, ◌≤◌, true, false, List, length, sym, ap, ◌∙◌, subst, arith}
 use Rattle.std.proofs.lemmas.Result.{MatchResult-from_err}
 use Rattle.frames.specs.Layout.{cache_of}
 use Rattle.frames.specs.Frames.{Sound as Framed, Clean, pinned, shown_by}
-use Rattle.store.specs.Head.{Head, head_of, stamped}
-use Rattle.store.specs.Store.{frames_of, next_of, next, cache}
+use Rattle.store.specs.Head.{head_of, stamped}
 use Rattle.store.proofs.Media.{rested_safe}
 use Rattle.store.proofs.Places.{length_next}
 use Rattle.store.proofs.Comes.{rested_read, read_lost, redo_lost, opened}

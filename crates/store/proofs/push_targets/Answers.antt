@@ -1,4 +1,4 @@
-use Rattle.std.proofs.Common.{◌≡◌, ℕ, ◌<◌, List, length, take, sym, ap, ◌∙◌, subst, arith, length-take}
+use Rattle.std.proofs.Common.{ℕ, ◌<◌, List, length, take, sym, ap, ◌∙◌, subst, arith, length-take}
 use Rattle.frames.specs.Layout.{cache_of}
 use Rattle.frames.specs.Frames.{Sound as Framed, batch_page, batch_pages}
 use Rattle.store.specs.Head.{Head, aimed, aiming}

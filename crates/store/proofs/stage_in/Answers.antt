@@ -1,6 +1,6 @@
-use Rattle.std.proofs.Common.{◌≡◌, ℕ, ◌+◌, ◌<◌, ◌≤◌, List, length, get_or, sum, sym, ap, ◌∙◌, subst, arith}
+use Rattle.std.proofs.Common.{◌≡◌, ℕ, ◌+◌, ◌<◌, ◌≤◌, List, length, get_or, sum, sym, ap, ◌∙◌, subst}
 use Rattle.frames.specs.Layout.{Cache, cache_of}
-use Rattle.frames.specs.Frames.{Sound as Framed, Clean, page_in, pinned, shown_by, fill}
+use Rattle.frames.specs.Frames.{Sound as Framed, Clean, pinned, shown_by, fill}
 use Rattle.frames.proofs.Slots.{rows}
 use Rattle.store.specs.Store.{frames_of, cache}
 use Rattle.store.proofs.Places.{length_frames, frames_frames, frames_next, frames_long}

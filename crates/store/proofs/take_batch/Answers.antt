@@ -1,11 +1,11 @@
 use Rattle.std.proofs.Common.{◌≡◌, ℕ, ◌<◌, true, false, List, length, sym, ap, ◌∙◌, subst, inl, arith}
 use Rattle.std.proofs.lemmas.Result.{err_from_is_err_and}
-use Rattle.frames.specs.Layout.{Cache, cache_of}
-use Rattle.frames.specs.Frames.{Sound as Framed, Clean, InPlace, batch_page, batch_words, shown_by, settle, entry_in}
+use Rattle.frames.specs.Layout.{cache_of}
+use Rattle.frames.specs.Frames.{Sound as Framed, Clean, batch_page, batch_words, shown_by, entry_in}
 use Rattle.store.specs.Medium.{WroteAll}
-use Rattle.store.specs.Head.{Head, head_of, Sound}
+use Rattle.store.specs.Head.{Sound}
 use Rattle.store.specs.State.{Firm}
-use Rattle.store.specs.Store.{frames_of, next_of, next, cache, worked, Intact}
+use Rattle.store.specs.Store.{frames_of, next, cache}
 use Rattle.store.proofs.Places.{length_next, length_frames, frames_frames, frames_next, frames_long}
 use Rattle.store.proofs.Grows.{length_queue}
 use Rattle.store.proofs.Cached.{batch_used}

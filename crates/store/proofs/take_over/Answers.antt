@@ -1,7 +1,7 @@
-use Rattle.std.proofs.Common.{◌≡◌, ℕ, ◌+◌, ◌<◌, ◌≤◌, List, [], length, sym, ap, ◌∙◌, subst, arith}
+use Rattle.std.proofs.Common.{ℕ, ◌+◌, ◌<◌, List, length, sym, ap, ◌∙◌, subst, arith}
 use Rattle.frames.specs.Layout.{cache_of}
 use Rattle.frames.specs.Frames.{Sound as Framed, batch_pages}
-use Rattle.store.specs.Head.{Head, head_of, aiming, batched, rooted, freed}
+use Rattle.store.specs.Head.{Head, aiming, batched, rooted, freed}
 use Rattle.store.specs.Store.{frames_of, next, cache}
 use Rattle.store.proofs.Cached.{length_pages}
 use Rattle.store.proofs.take_over.Goals as goal

@@ -1,4 +1,4 @@
-use Rattle.std.proofs.Common.{◌≡◌, ℕ, List, is_ok, sym, refl, subst}
+use Rattle.std.proofs.Common.{ℕ, List, is_ok, sym, subst}
 use Rattle.store.specs.Medium.{Wrote}
 use Rattle.store.proofs.Places.{length_frames}
 use Rattle.store.proofs.write_frame.Goals as goal

@@ -1,4 +1,4 @@
-use Rattle.std.proofs.Common.{false, refl, ◌∙◌, arith}
+use Rattle.std.proofs.Common.{false, refl, ◌∙◌}
 use Rattle.std.proofs.lemmas.Result.{err_from_is_err_and}
 use Rattle.store.proofs.Lasts.{moves_cut, moves_sync}
 use Rattle.store.proofs.write_head.Goals as goal

@@ -1,6 +1,6 @@
-use Rattle.std.proofs.Common.{ap, ◌∙◌, arith}
+use Rattle.std.proofs.Common.{arith}
 use Rattle.store.specs.Head.{head_of}
-use Rattle.store.proofs.Words.{free_head, ring_words}
+use Rattle.store.proofs.Words.{free_head}
 use Rattle.store.proofs.head.free_done.Goals as goal
 
 pub overflow_add-done : goal.overflow_add-done

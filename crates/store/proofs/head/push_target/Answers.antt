@@ -1,5 +1,4 @@
-use Rattle.std.proofs.Common.{◌≡◌, ◌<◌, ◌≤◌, length, get_or, refl, arith}
-use Rattle.store.specs.Head.{head_of}
+use Rattle.std.proofs.Common.{◌<◌, ◌≤◌, get_or, refl, arith}
 use Rattle.store.proofs.Words.{aim_head, target_count}
 use Rattle.store.proofs.head.push_target.Goals as goal
 

@@ -1,4 +1,3 @@
-use Rattle.std.proofs.Common.{arith}
 use Rattle.store.proofs.Words.{target_word}
 use Rattle.store.proofs.head.target.Goals as goal
 

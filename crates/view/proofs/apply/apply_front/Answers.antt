@@ -1,4 +1,4 @@
-use Rattle.std.proofs.Common.{◌≡◌, ℕ, List, [], ◌∷◌, length, sym, ap, ◌∙◌, subst, rules}
+use Rattle.std.proofs.Common.{◌≡◌, [], ◌∷◌, length, sym, ap, ◌∙◌, subst, rules}
 use Rattle.lines.specs.Tables.{behind}
 use Rattle.view.specs.Writes.{with_lines}
 use Rattle.view.proofs.Applying.{has_applied, applied_pairs, applied_rising, applied_succs, applied_deals}

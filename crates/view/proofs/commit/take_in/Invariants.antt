@@ -1,7 +1,3 @@
-use Rattle.std.proofs.Common.{◌≡◌, ◌+◌, ◌++◌, length, take}
-use Rattle.lines.specs.Tables.{queue_lines, QueueIn, OnlyQueue}
-use Rattle.view.specs.Adds.{writing}
-use Rattle.view.specs.Room.{own_of, queue_of}
 use Rattle.view.proofs.Filed.{Filing}
 use Rattle.view.proofs.commit.take_in.Given as goal
 

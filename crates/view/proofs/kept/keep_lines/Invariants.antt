@@ -1,5 +1,5 @@
 use Rattle.std.proofs.Common.{◌≡◌, ◌++◌, map, take, drop}
-use Rattle.lines.specs.Rings.{Holds, lines_of}
+use Rattle.lines.specs.Rings.{lines_of}
 use Rattle.view.specs.Upkeep.{kept_by}
 use Rattle.view.proofs.kept.keep_lines.Given as goal
 

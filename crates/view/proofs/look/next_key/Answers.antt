@@ -1,5 +1,4 @@
-use Rattle.std.proofs.Common.{◌≡◌, List, Option, ap, ◌∙◌, rules}
-use Rattle.lines.specs.declared.line.Line.{Line}
+use Rattle.std.proofs.Common.{◌≡◌, ap, ◌∙◌, rules}
 use Rattle.lines.specs.Tables.{behind}
 use Rattle.view.specs.Nexts.{Rises, Onward}
 use Rattle.view.specs.Room.{own_of, queue_of}

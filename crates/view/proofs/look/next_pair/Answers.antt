@@ -1,8 +1,8 @@
-use Rattle.std.proofs.Common.{◌≡◌, ◌+◌, Some, None, sym, ap, ◌∙◌, arith, rules}
+use Rattle.std.proofs.Common.{◌+◌, sym, ap, ◌∙◌, arith, rules}
 use Rattle.lines.specs.Tables.{behind}
 use Rattle.node.specs.Pairs.{find}
 use Rattle.view.specs.Room.{own_of, queue_of, pairs_seen}
-use Rattle.view.specs.Writes.{with_lines, Rising}
+use Rattle.view.specs.Writes.{with_lines}
 use Rattle.view.proofs.Asking.{spent_more, spent_both}
 use Rattle.view.proofs.Done.{rising_lines}
 use Rattle.view.proofs.Onward.{next_none, next_some, next_there}

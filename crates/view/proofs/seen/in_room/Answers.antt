@@ -5,7 +5,7 @@ use Rattle.lines.specs.Tables.{deal_ring, deal_lines, queue_lines}
 use Rattle.lines.proofs.Parts.{deal_part}
 use Rattle.view.specs.declared.seen.Seen.{Seen}
 use Rattle.view.specs.declared.seen.Seen.TheVariants.{Unknown}
-use Rattle.view.specs.Sight.{seen_in, says}
+use Rattle.view.specs.Sight.{seen_in}
 use Rattle.view.proofs.Looks.{over, over_silent, over_said, says_over}
 use Rattle.view.proofs.seen.in_room.Goals as goal
 

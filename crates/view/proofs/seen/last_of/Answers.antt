@@ -1,7 +1,6 @@
-use Rattle.std.proofs.Common.{◌≡◌, ℕ, ◌-◌, ◌≤◌, List, length, get_or, ap, ◌∙◌, arith}
+use Rattle.std.proofs.Common.{List, ap, ◌∙◌, arith}
 use Rattle.std.proofs.lemmas.List.{take_all}
 use Rattle.lines.specs.declared.line.Line.{Line}
-use Rattle.lines.specs.declared.line.Line.TheVariants.{Idle}
 use Rattle.view.specs.declared.seen.Seen.TheVariants.{Unknown}
 use Rattle.lines.specs.Rings.{lines_of}
 use Rattle.view.specs.Sight.{seen_line, seen_in}

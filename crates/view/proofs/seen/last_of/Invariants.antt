@@ -1,4 +1,4 @@
-use Rattle.std.proofs.Common.{◌≡◌, ℕ, ◌≤◌, take}
+use Rattle.std.proofs.Common.{◌≡◌, ◌≤◌, take}
 use Rattle.view.specs.declared.seen.Seen.TheVariants.{Unknown}
 use Rattle.lines.specs.Rings.{lines_of}
 use Rattle.view.specs.Sight.{seen_in}

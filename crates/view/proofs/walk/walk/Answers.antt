@@ -1,4 +1,4 @@
-use Rattle.std.proofs.Common.{◌≡◌, ℕ, ◌^◌, ◌<◌, Some, None, sym, ◌∙◌, arith}
+use Rattle.std.proofs.Common.{◌^◌, ◌<◌, Some, None, arith}
 use Rattle.view.specs.Room.{own_of, queue_of}
 use Rattle.view.specs.Sight.{says}
 use Rattle.view.proofs.Onward.{ahead_less, walk_more, walk_stays, walk_ends}

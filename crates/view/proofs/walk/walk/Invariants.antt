@@ -1,4 +1,4 @@
-use Rattle.std.proofs.Common.{◌≡◌, ℕ, Option}
+use Rattle.std.proofs.Common.{ℕ, Option}
 use Rattle.view.specs.Room.{own_of, queue_of}
 use Rattle.view.specs.Sight.{says}
 use Rattle.view.specs.Nexts.{Walked, ahead}

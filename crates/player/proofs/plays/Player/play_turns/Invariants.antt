@@ -2,4 +2,4 @@ use Rattle.std.proofs.Common.{◌+◌, ◌≤◌}
 use Rattle.player.proofs.plays.Player.play_turns.Given as goal
 
 abbrev pub invariant-loop-turn : goal.invariant-loop-turn
-invariant-loop-turn g l = l.self.life.turns + l.n ≤ 16777215 + l.-turn
+invariant-loop-turn g l = l.self.life.turns + l.n ≤ 16777215 + l._turn
