@@ -1,20 +1,18 @@
 -- The play stays sane: as a line is said, as a deal is made, as the tree only looks.
-use Rattle.std.proofs.Common.{◌≡◌, ℕ, zero, suc, ◌+◌, ◌*◌, ◌<◌, ◌≤◌, ◌⊎◌, List, [], ◌∷◌, ◌++◌, length, get_or, take, drop, set, replicate, Option, sym, refl, ap, ◌∙◌, subst, inl, inr, arith}
-use Rattle.std.specs.List.{AllByRecursion as All}
+use Rattle.std.proofs.Common.{◌≡◌, ℕ, ◌+◌, ◌<◌, ◌≤◌, List, [], ◌∷◌, ◌++◌, length, get_or, take, drop, set, replicate, sym, refl, ◌∙◌, subst, inl, inr, arith}
 use Rattle.std.proofs.lemmas.List.{length-set, get_or-set_same, get_or-set_other, get_or-replicate, length-replicate}
 use Rattle.std.proofs.lemmas.Bool.{cases_eq}
 use Rattle.lines.specs.declared.line.Line.{Line}
 use Rattle.lines.specs.declared.line.Line.TheVariants.{Idle, Wrote, Cleared, Stale, Read, Scanned, Marked}
 use Rattle.lines.specs.declared.ring.Ring.{Ring}
 use Rattle.lines.specs.Rings.{lines_of}
-use Rattle.lines.specs.Tables.{deal_ring, deal_lines, queue_lines, tables, QueueIn, OnlyDeal, OnlyQueue}
+use Rattle.lines.specs.Tables.{deal_lines, queue_lines, tables, QueueIn, OnlyDeal, OnlyQueue}
 use Rattle.lines.proofs.Circle.{length_lines}
 use Rattle.lines.proofs.Parts.{same_deals, same_queue}
 use Rattle.view.specs.declared.seen.View.{View}
 use Rattle.view.specs.Adds.{writing}
 use Rattle.view.specs.Room.{Counts, own_of}
 use Rattle.view.specs.Upkeep.{next_key, LineOk, SuccOk}
-use Rattle.view.specs.Writes.{Rising}
 use Rattle.view.proofs.Filed.{length_own}
 use Rattle.view.proofs.Tabled.{queue_in_on}
 use Rattle.view.proofs.Upkeeps.{more_ok}

@@ -1,5 +1,5 @@
 -- What the play keeps: each dropped key has the tree's first key above it, in the queue and in all deals.
-use Rattle.std.specs.Prelude.{◌≡◌, ℕ, ◌<◌, List, slice_index}
+use Rattle.std.specs.Prelude.{ℕ, ◌<◌, List, slice_index}
 use Rattle.lines.specs.declared.ring.Ring.{Ring}
 use Rattle.lines.specs.Tables.{deal_lines, queue_lines, QueueIn}
 use Rattle.view.specs.Asks.{Asks}
