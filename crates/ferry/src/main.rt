@@ -113,12 +113,17 @@ fn main(rt: HostRuntime) -> io::Result<()> {
     let mut saved_of = [0u64; SAVED_PAGES];
     let mut cuts = [0u64; CUTS];
     let mut room = [0u64; ROOM];
-    let mut disk = MemDisk::new(&mut shown, &mut saved, &mut saved_of, &mut cuts);
+    let mut disk = MemDisk::new(
+        shown.as_mut_slice(),
+        saved.as_mut_slice(),
+        saved_of.as_mut_slice(),
+        cuts.as_mut_slice(),
+    );
     let mut out = Printer {
         rt: &rt,
         result: Ok(()),
     };
-    play(&rt, &mut disk, &mut room, &mut out)?;
+    play(&rt, &mut disk, room.as_mut_slice(), &mut out)?;
     let Printer { rt: _, result } = out;
     result
 }
