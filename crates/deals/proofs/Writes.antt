@@ -1,7 +1,7 @@
 -- A deal as a row of writes: what it leaves of a book, and what is found there.
 use Rattle.std.proofs.Common.{◌≡◌, ℕ, suc, Bool, true, false, ◌||◌, T, ltb, List, [], ◌∷◌, ◌++◌, map, length, sym, refl, ap, ◌∙◌, ap₂, inl, inr, arith}
 use lib.Dec.{eqb_refl}
-use Rattle.std.specs.List.{AllByRecursion as All}
+use Rattle.std.specs.List.{AllByRecursion}
 use Rattle.std.proofs.lemmas.List.{length-map, map_push, get_or-map, take-map}
 use Rattle.std.proofs.ByRecursion.{All-get_or, All-push, All-take}
 use Rattle.std.proofs.lemmas.Bool.{eq-eqb, ne_eqb, cases_eq, cases_Bool, ltb-true}
@@ -104,7 +104,7 @@ pub found_miss : (j : ℕ) (ws : List Write) (d : Answer) → Misses j ws → fo
 found_miss j [] d h = refl
 found_miss j (w ∷ ws) d h = rw (written_miss j w d h.0) (found_miss j ws d h.1)
 
-miss_then : (j : ℕ) (o : Op) (ws : List Write) (ms : List (List Write)) → (T (writes j o) → ⊥) → Misses j ws → All (Misses j) ms → Misses j (writes_then o ws ms) × All (Misses j) (marks_then o ws ms)
+miss_then : (j : ℕ) (o : Op) (ws : List Write) (ms : List (List Write)) → (T (writes j o) → ⊥) → Misses j ws → AllByRecursion (Misses j) ms → Misses j (writes_then o ws ms) × AllByRecursion (Misses j) (marks_then o ws ms)
 unfolding writes
 miss_then j (Get k) ws ms n h g = (h, g)
 miss_then j (Put k x) ws ms n h g = (All-push (λ w. j ≡ key_of w → ⊥) ws (Puts k x) h (λ e. n (rw e (eqb_refl k))), g)
@@ -127,11 +127,11 @@ pub or_right : (x y : Bool) → T y → T (x || y)
 or_right true y t = tt
 or_right false y t = t
 
-pub miss_all : (j : ℕ) (ss : List Said) (ws : List Write) (ms : List (List Write)) → (T (some_writes j ss) → ⊥) → Misses j ws → All (Misses j) ms → Misses j (writes_of ss ws ms)
+pub miss_all : (j : ℕ) (ss : List Said) (ws : List Write) (ms : List (List Write)) → (T (some_writes j ss) → ⊥) → Misses j ws → AllByRecursion (Misses j) ms → Misses j (writes_of ss ws ms)
 unfolding some_writes
 miss_all j [] ws ms n h g = h
 miss_all j (s ∷ ss) ws ms n h g =
-    let m : Misses j (writes_then s.op ws ms) × All (Misses j) (marks_then s.op ws ms) = miss_then j s.op ws ms (λ t. n (or_left (writes j s.op) (some_writes j ss) t)) h g in
+    let m : Misses j (writes_then s.op ws ms) × AllByRecursion (Misses j) (marks_then s.op ws ms) = miss_then j s.op ws ms (λ t. n (or_left (writes j s.op) (some_writes j ss) t)) h g in
     miss_all j ss (writes_then s.op ws ms) (marks_then s.op ws ms) (λ t. n (or_right (writes j s.op) (some_writes j ss) t)) m.0 m.1
 
 -- what a deal doesn't write it leaves

@@ -1,6 +1,6 @@
 -- A deal as a row of writes, by what was said in it and by its lines.
 use Rattle.std.specs.Prelude.{ℕ, suc, cond, List, [], ◌∷◌, ◌++◌, length, take, ◌==◌, ◌≢◌, nat_lt, slice_index_or}
-use Rattle.std.specs.List.{AllByRecursion as All}
+use Rattle.std.specs.List.{AllByRecursion}
 use Rattle.deals.specs.declared.Op.{Op}
 use Rattle.deals.specs.declared.Op.TheVariants.{Get, Put, Drop, Next, Mark, Back, Commit, Undo}
 use Rattle.deals.specs.declared.Answer.{Answer}
@@ -84,7 +84,7 @@ key_of (Puts k x) = k
 key_of (Drops k) = k
 
 abbrev pub Misses : ℕ → List Write → Type 0
-Misses j ws = All (λ w. j ≢ key_of w) ws
+Misses j ws = AllByRecursion (λ w. j ≢ key_of w) ws
 
 -- what is found by a deal: its own last write of the key, or what is in the book
 abbrev pub sees : Book → List Write → ℕ → Answer

@@ -1,7 +1,7 @@
 -- What lines say of a key, one line more; and what is found by their writes.
 use Rattle.std.proofs.Common.{◌≡◌, ℕ, ◌+◌, ◌-◌, ◌<◌, ◌≤◌, true, false, eqb, List, [], ◌∷◌, ◌++◌, length, get_or, take, Option, sym, refl, ap, ◌∙◌, inl, inr, arith}
 use Rattle.std.proofs.lemmas.List.{take_more}
-use Rattle.std.specs.List.{AllByRecursion as All}
+use Rattle.std.specs.List.{AllByRecursion}
 use Rattle.std.proofs.lemmas.Bool.{cases_Bool, ne_eqb, eqb-true, both_ways}
 use Rattle.node.specs.Pairs.{find}
 use Rattle.lines.specs.declared.line.Line.{Line}
@@ -143,10 +143,10 @@ no_line j (Read k) d h g = g
 no_line j (Scanned k q) d h g = g
 no_line j Marked d h g = g
 
-no_in : (j : ℕ) (ls : List Line) (d : Seen) → All (NoPut j) ls → is_there d ≡ false → is_there (seen_in j ls d) ≡ false
+no_in : (j : ℕ) (ls : List Line) (d : Seen) → AllByRecursion (NoPut j) ls → is_there d ≡ false → is_there (seen_in j ls d) ≡ false
 no_in j [] d h g = g
 no_in j (l ∷ ls) d h g = no_in j ls (seen_line j l d) h.1 (no_line j l d h.0 g)
 
-pub no_says : (q o : List Line) (j : ℕ) → All (NoPut j) q → All (NoPut j) o → is_there (says q o j) ≡ false
+pub no_says : (q o : List Line) (j : ℕ) → AllByRecursion (NoPut j) q → AllByRecursion (NoPut j) o → is_there (says q o j) ≡ false
 unfolding says
 no_says q o j h g = no_in j o (seen_in j q Unknown) g (no_in j q Unknown h refl)

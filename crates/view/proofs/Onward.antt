@@ -1,6 +1,6 @@
 -- The next key that a deal sees: the walk over dropped keys, and the least that lines put.
 use Rattle.std.proofs.Common.{◌≡◌, ℕ, ◌^◌, ◌<◌, true, false, ◌&&◌, ltb, List, [], ◌∷◌, Some, None, Option, sym, refl, ap, ◌∙◌, subst, inl, inr, arith}
-use Rattle.std.specs.List.{AllByRecursion as All}
+use Rattle.std.specs.List.{AllByRecursion}
 use Rattle.std.proofs.ByRecursion.{All-weaker}
 use Rattle.std.proofs.lemmas.Bool.{cases_Bool, cases_order, and_parts, and_cases, ltb-true, ltb-false, both_ways}
 use Rattle.lines.specs.declared.line.Line.{Line}
@@ -172,7 +172,7 @@ module _ (t : Pairs) (q o : List Line) (k : ℕ) where
   best_line (Scanned j n) b r s = (record { reached = r; stands = s; lower = λ m h. h }, tt)
   best_line Marked b r s = (record { reached = r; stands = s; lower = λ m h. h }, tt)
 
-  pub best_in : (ls : List Line) (b : Option ℕ) → Reached b → Stands b → Best (least_in (says q o) k ls b) b × All (Passed (least_in (says q o) k ls b)) ls
+  pub best_in : (ls : List Line) (b : Option ℕ) → Reached b → Stands b → Best (least_in (says q o) k ls b) b × AllByRecursion (Passed (least_in (says q o) k ls b)) ls
   best_in [] b r s = (record { reached = r; stands = s; lower = λ m h. h }, tt)
   best_in (l ∷ ls) b r s =
       let here = best_line l b r s in
@@ -191,14 +191,14 @@ module _ (t : Pairs) (q o : List Line) (k : ℕ) where
   no_put b j h g u (Scanned m r) p = tt
   no_put b j h g u Marked p = tt
 
-  nothing : (b : Option ℕ) → Reached b → All (Passed b) q → All (Passed b) o → (j : ℕ) → k < j → Under j b → viewed t q o j ≡ None
+  nothing : (b : Option ℕ) → Reached b → AllByRecursion (Passed b) q → AllByRecursion (Passed b) o → (j : ℕ) → k < j → Under j b → viewed t q o j ≡ None
   nothing b r pq po j h u =
       elim (cases_Bool (is_there (says q o j))) [
         | inl e ↦ absurd (both_ways (is_there (says q o j)) (no_says q o j (All-weaker (Passed b) (NoPut j) (no_put b j h e u) q pq) (All-weaker (Passed b) (NoPut j) (no_put b j h e u) o po)) e)
         | inr e ↦ r j h u e
       ]
 
-  pub is_key : (b : Option ℕ) → Reached b → Stands b → All (Passed b) q → All (Passed b) o → IsKey (viewed t q o) k b
+  pub is_key : (b : Option ℕ) → Reached b → Stands b → AllByRecursion (Passed b) q → AllByRecursion (Passed b) o → IsKey (viewed t q o) k b
   is_key None r s pq po = end (λ j h. nothing None r pq po j h tt)
   is_key (Some p) r s pq po = at p s.1.0 s.0 s.1.1 (λ j h u. nothing (Some p) r pq po j h u)
 

@@ -1,6 +1,6 @@
 -- The tree's first key above a dropped one, and how it is kept while the tree changes.
 use Rattle.std.specs.Prelude.{◌≡◌, ℕ, cond, ◌&&◌, List, Some, None, Option, ◌==◌, nat_lt}
-use Rattle.std.specs.List.{AllByRecursion as All}
+use Rattle.std.specs.List.{AllByRecursion}
 use Rattle.node.specs.Pairs.{above}
 use Rattle.lines.specs.declared.line.Line.{Line}
 use Rattle.lines.specs.declared.line.Line.TheVariants.{Idle, Wrote, Cleared, Stale, Read, Scanned, Marked}
@@ -59,4 +59,4 @@ LineOk t (Scanned k q) = Unit {0}
 LineOk t Marked = Unit {0}
 
 abbrev pub SuccOk : List (ℕ × ℕ) → List Line → Type 0
-SuccOk t ls = All (LineOk t) ls
+SuccOk t ls = AllByRecursion (LineOk t) ls
