@@ -1,4 +1,6 @@
 // Plays a script from standard input on a disk in memory.
+#![tactic(auto)]
+
 use deals::{Pages, Power};
 use memdisk::MemDisk;
 use player::{Player, Sink};

@@ -1,5 +1,5 @@
 -- Where the words of a part stand, and what they are together: 120 frames of 512 words, then the table page.
-use Rattle.std.specs.Prelude.{◌≡◌, ℕ, ◌+◌, ◌*◌, List, length, take, drop, replicate, slice_index}
+use Rattle.std.specs.Prelude.{◌≡◌, ℕ, ◌*◌, List, length, take, drop, replicate, slice_index}
 use borrow.Rule.Slice.PartMut.{put_mid}
 
 -- What a part holds. A frame is clean where its mark is 0, and changed where it is k + 1: it then stands at place k of the batch.

@@ -2,6 +2,7 @@
 //
 // The slice has 120 frames of 512 words and a table page. The table says which page stands in which frame, which frames are changed (the
 // batch, in the order in which they were entered), which are pinned, and which leaves next.
+#![tactic(auto)]
 
 mod cache;
 mod guard;

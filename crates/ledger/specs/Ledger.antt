@@ -1,12 +1,11 @@
 -- The book: what has lasted of it on the disk, and how it stands in the room.
-use Rattle.std.specs.Prelude.{◌≡◌, ℕ, ◌+◌, ◌-◌, ◌*◌, ◌<◌, ◌≤◌, Bool, true, false, cond, not, T, ◌⊎◌, List, [], ◌∷◌, ◌++◌, map, length, take, drop, Some, None, slice_index}
+use Rattle.std.specs.Prelude.{◌≡◌, ℕ, ◌-◌, ◌*◌, ◌<◌, ◌≤◌, false, T, ◌⊎◌, List, map, length, take, drop, None, slice_index}
 use Rattle.lines.specs.declared.line.Line.{Line}
 use Rattle.lines.specs.declared.line.Line.TheVariants.{Wrote, Cleared}
 use Rattle.lines.specs.Lines.{bare}
 use Rattle.lines.specs.Tables.{behind, clerks_in, deal_lines, queue_lines, QueueIn}
 use Rattle.store.specs.declared.head.Record.{Record}
 use Rattle.store.specs.declared.head.Record.TheVariants.{Put, Drop}
-use Rattle.store.specs.declared.Store.{Store}
 use Rattle.store.specs.Medium.{Medium, Back}
 use Rattle.store.specs.State.{State, state_of, queue_by, Rested}
 use Rattle.store.specs.Store.{Intact, next}

@@ -1,4 +1,6 @@
 // The book on the disk: a tree and a queue of writes that it hasn't seen yet.
+#![tactic(auto)]
+
 use lines::ring::Ring;
 use store::Store;
 

@@ -1,6 +1,6 @@
 -- What the words of a disk in memory mean.
 -- Assumes nothing.
-use Rattle.std.specs.Prelude.{◌≡◌, ℕ, suc, ◌+◌, ◌-◌, ◌/◌, ◌%◌, ◌<◌, min, Bool, true, false, cond, ◌&&◌, List, [], ◌∷◌, ◌++◌, length, replicate, Some, None, Option, ◌==◌, nat_lt, slice_index, slice_index_or}
+use Rattle.std.specs.Prelude.{◌≡◌, ℕ, suc, ◌-◌, ◌/◌, ◌%◌, ◌<◌, min, Bool, true, false, cond, ◌&&◌, List, [], ◌∷◌, ◌++◌, length, replicate, Some, None, Option, ◌==◌, nat_lt, slice_index, slice_index_or}
 use Rattle.deals.specs.Disk.{Disk, Within, at}
 use Rattle.memdisk.specs.declared.MemDisk.{MemDisk}
 use Rattle.memdisk.specs.declared.asking.Asked.{Asked}

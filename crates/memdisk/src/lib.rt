@@ -1,4 +1,6 @@
 // A disk in memory with power cuts, for trials.
+#![tactic(auto)]
+
 ghost use Rattle.std.specs.Prelude.{◌≡◌, ◌/◌, ◌≤◌, length};
 ghost use Rattle.deals.specs.Disk.{Blank};
 ghost use Rattle.memdisk.specs.Layout.{pages_in};

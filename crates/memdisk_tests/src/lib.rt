@@ -1,4 +1,6 @@
 // Trials of the disk in memory.
+#![tactic(auto)]
+
 use deals::{Gone, Power};
 
 pub const WORDS: usize = 512;

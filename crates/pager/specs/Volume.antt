@@ -1,5 +1,5 @@
 -- The tree's pages on the store: what stands, and what passes through code that only reads the disk.
-use Rattle.std.specs.Prelude.{◌≡◌, Bool, true, false, cond, not, List, ℕ, ◌+◌, ◌-◌, ◌*◌, ◌<◌, ◌≤◌, ◌^◌, T, length, take, drop}
+use Rattle.std.specs.Prelude.{◌≡◌, Bool, true, false, cond, not, List, ℕ, ◌+◌, ◌-◌, ◌<◌, ◌≤◌, ◌^◌, T, length, take, drop}
 use Rattle.frames.specs.Layout.{Cache}
 use Rattle.frames.specs.Frames.{changed, shown_by}
 use Rattle.store.specs.declared.head.Root.{Root}
@@ -7,7 +7,7 @@ use Rattle.store.specs.declared.Store.{Store}
 use Rattle.store.specs.Medium.{Medium}
 use Rattle.store.specs.Store.{Intact, cache, next_of}
 use Rattle.tree.specs.State.{PageState}
-use Rattle.pager.specs.Ground.{taken_by, room_by, pairs_by, Frees, Grounded}
+use Rattle.pager.specs.Ground.{taken_by, room_by, Grounded}
 
 -- each page as the frames and the disk show it
 abbrev pub view_of : Medium → List ℕ → ℕ → List ℕ

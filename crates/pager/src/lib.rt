@@ -1,3 +1,5 @@
+#![tactic(auto)]
+
 // The tree's pages on the store.
 pub fn placeholder() -> u8 {
     0

@@ -1,7 +1,6 @@
 -- What a turn leaves, and what waiting for a clerk leaves.
 -- Assumes nothing.
 use Rattle.std.specs.Prelude.{◌≡◌, ◌+◌, ◌<◌, ◌≤◌, List}
-use Rattle.deals.specs.declared.Answer.{Answer}
 use Rattle.player.specs.declared.seats.Seat.{Seat}
 use Rattle.player.specs.declared.plays.Turned.{Turned}
 use Rattle.player.specs.declared.plays.Turned.TheVariants as turned

@@ -1,4 +1,6 @@
 // Plays a script's commands on the office.
+#![tactic(auto)]
+
 pub mod lives;
 pub mod plays;
 pub mod power;

@@ -1,5 +1,5 @@
 -- A line: a clerk's order, or one of its own.
-use Rattle.std.proofs.Common.{◌≡◌, ℕ, ◌+◌, ◌^◌, ◌<◌, ◌≤◌, ◌⊎◌, List, [], ◌∷◌, ◌++◌, length, get_or, take, drop, Some, None, decimal, Option, sym, refl, ap, ◌∙◌, inl, inr, arith, length-drop}
+use Rattle.std.proofs.Common.{◌≡◌, ℕ, ◌+◌, ◌<◌, ◌≤◌, ◌⊎◌, List, ◌∷◌, length, take, drop, Some, None, decimal, Option, sym, refl, ap, ◌∙◌, inl, inr, arith, length-drop}
 use Rattle.std.proofs.lemmas.List.{drop-drop}
 use Rattle.deals.specs.declared.Op.{Op}
 use Rattle.script.specs.declared.Command.{Command}
@@ -8,7 +8,7 @@ use Rattle.script.specs.declared.line.Verb.TheVariants as verb
 use Rattle.script.specs.declared.line.Numbers.TheVariants.{Zero, One, Two}
 use Rattle.script.specs.declared.line.Order.{Order}
 use Rattle.script.specs.Text.{Reads, Fits, OpFits, op_text, text_of}
-use Rattle.script.specs.Order.{verb_text, order_text, OrderFits, op_of, own_command}
+use Rattle.script.specs.Order.{order_text, OrderFits, op_of, own_command}
 use Rattle.script.specs.Words.{WordEnd}
 use Rattle.script.proofs.Commands.{order, order_of, op_text_lem, op_fits, op_again, op_means, own_order, own_means, own_text, own_again}
 use Rattle.script.proofs.Operands.{Small, around}

@@ -1,5 +1,5 @@
 -- What reads a text, and what doesn't.
-use Rattle.std.proofs.Common.{◌≡◌, ℕ, List, Some, None, Option, refl, ap, subst, arith}
+use Rattle.std.proofs.Common.{◌≡◌, ℕ, List, Some, None, ap, subst, arith}
 use Rattle.script.specs.Text.{Reads}
 
 pub not_some : {A : Type 0} {B : Type 0} (a : A) → None ≡ Some a → B

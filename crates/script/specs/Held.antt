@@ -1,6 +1,6 @@
 -- What a line buffer holds.
 -- Assumes nothing.
-use Rattle.std.specs.Prelude.{ℕ, Bool, true, false, cond, List, [], ◌∷◌, ◌++◌, length, take, Some, None, Option, nat_le, nat_lt}
+use Rattle.std.specs.Prelude.{ℕ, cond, List, [], ◌∷◌, ◌++◌, length, take, Some, None, Option, nat_le, nat_lt}
 use Rattle.script.specs.declared.buffer.LineBuffer.{LineBuffer}
 
 -- the line so far; None where it is too long

@@ -1,6 +1,6 @@
 -- The text of what is printed, as bytes.
 -- Assumes nothing.
-use Rattle.std.specs.Prelude.{ℕ, List, [], ◌∷◌, ◌++◌, codes, decimal}
+use Rattle.std.specs.Prelude.{ℕ, List, ◌∷◌, ◌++◌, codes, decimal}
 use Rattle.deals.specs.declared.Answer.{Answer}
 use Rattle.deals.specs.declared.Answer.TheVariants.{Done, Missing, Word, Pair, Point, No, Full, Clash}
 use Rattle.script.specs.declared.Output.{Output}

@@ -1,4 +1,6 @@
 // The script language: what a line asks for, and what is printed.
+#![tactic(auto)]
+
 pub mod buffer;
 pub mod line;
 pub mod show;
