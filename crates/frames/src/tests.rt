@@ -4,7 +4,6 @@ ghost use Rattle.frames.specs.Layout.{cache_of};
 ghost use Rattle.frames.specs.Frames.{Sound, Stands, pins_in};
 
 use super::*;
-use std::process::Abort;
 use std::test::Fail;
 
 // Brings page p in, where it isn't there yet.
@@ -45,15 +44,23 @@ fn fetch_changed(part: &mut [u64], p: u64) -> Option<usize>
 }
 
 // Leaves early while a frame is held, or not: the pin is given back, and the cache is what it was.
-fn peek(rt: &impl Abort, part: &mut [u64], slot: usize, wanted: u64) -> u64
+fn peek(part: &mut [u64], slot: usize, wanted: u64) -> Result<u64, Fail>
     requires { (Sound part.old) × ((slot < 120) × (pins_in (cache_of part.old) slot ≡ 0)) }
     ensures { cache_of part.new ≡ cache_of part.old }
 {
     let mut words = [0; PAGE_WORDS];
     let held = pin(part, slot);
     held.read(&mut words);
-    assert!(rt; words[0] == wanted);
-    words[1]
+    same(words[0], wanted)?;
+    Ok(words[1])
+}
+
+fn same(found: u64, wanted: u64) -> Result<(), Fail> {
+    if found == wanted {
+        Ok(())
+    } else {
+        Err(Fail::new("another page's words"))
+    }
 }
 
 #[test]
