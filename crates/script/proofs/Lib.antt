@@ -6,4 +6,3 @@ mod Operands
 mod Orders
 mod Commands
 mod Lines
-mod Buffers

@@ -1,5 +1,5 @@
 -- A line: a clerk's order, or one of its own.
-use Rattle.std.proofs.Common.{◌≡◌, ℕ, ◌+◌, ◌<◌, ◌≤◌, ◌⊎◌, List, ◌∷◌, length, take, drop, Some, None, decimal, Option, sym, refl, ap, ◌∙◌, inl, inr, arith, length-drop}
+use Rattle.std.proofs.Common.{◌≡◌, ℕ, ◌+◌, ◌<◌, ◌≤◌, List, ◌∷◌, length, take, drop, Some, None, decimal, Option, sym, refl, ap, ◌∙◌, arith}
 use Rattle.std.proofs.lemmas.List.{drop-drop}
 use Rattle.deals.specs.declared.Op.{Op}
 use Rattle.script.specs.declared.Command.{Command}
@@ -43,14 +43,13 @@ asked_by line e who h n (Turn k) f p = absurd (no_own_order line e who (order ve
 asked_by line e who h n (Cut k s) f p = absurd (no_own_order line e who (order verb.Cut (Two k s)) h n p)
 asked_by line e who h n Book f p = absurd (no_own_order line e who (order verb.Book Zero) h n p)
 
-pub no_clerk : (line : List ℕ) (e who : ℕ) → WordEnd line e → Reads Small decimal (take e line) (Some who) → (32 ≤ who) ⊎ ((who < 32) × (e ≡ length line)) → Reads Fits text_of line None
-no_clerk line e who h n why =
-    reads_none Fits text_of line (λ c f p.
-    let a = asked_by line e who h n c f p in
-    elim why [
-      | inl large ↦ omega (arith, a.small)
-      | inr alone ↦ omega (arith, ap length a.tail, length-drop e line, alone.1)
-    ])
+pub no_clerk : (line : List ℕ) (e who : ℕ) → WordEnd line e → Reads Small decimal (take e line) (Some who) → 32 ≤ who → Reads Fits text_of line None
+no_clerk line e who h n large =
+    reads_none Fits text_of line (λ c f p. let a = asked_by line e who h n c f p in omega (arith, a.small))
+
+pub no_tail : (line : List ℕ) (e who : ℕ) → WordEnd line e → Reads Small decimal (take e line) (Some who) → length (drop e line) ≡ 0 → Reads Fits text_of line None
+no_tail line e who h n none =
+    reads_none Fits text_of line (λ c f p. let a = asked_by line e who h n c f p in omega (arith, ap length a.tail))
 
 -- what stands behind the clerk
 behind_clerk : (line : List ℕ) (e who : ℕ) (c : Command) (a : AskedBy line e who c) → drop (e + 1) line ≡ order_text (order_of a.asks)

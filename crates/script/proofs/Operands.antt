@@ -41,23 +41,6 @@ behind_space rest e (Two a b) h f p =
 behind : (text : List ℕ) (e : ℕ) (n : Numbers) → Spaces text e → NumbersFit n → text ≡ numbers_text n → Behind (drop 1 text) e n
 behind text e n s f p = behind_space (drop 1 text) e n s.ends f (sym (whole text e s) ∙ p)
 
-nothing : (n : Numbers) → NumbersFit n → [] ≡ numbers_text n → Zero ≡ n
-nothing Zero f p = refl
-nothing (One a) f p = absurd (omega (arith, ap length p))
-nothing (Two a b) f p = absurd (omega (arith, ap length p))
-
-pub no_numbers : (text : List ℕ) → length text ≡ 0 → Reads NumbersFit numbers_text text (Some Zero)
-no_numbers [] e = reads_some NumbersFit numbers_text [] Zero tt refl nothing
-no_numbers (x ∷ xs) e = absurd (omega arith)
-
-no_space : (text : List ℕ) → 0 < length text → (get_or text 0 0 ≡ 32 → ⊥) → (n : Numbers) → NumbersFit n → text ≡ numbers_text n → ⊥
-no_space text some odd Zero f p = omega (arith, ap length p)
-no_space text some odd (One a) f p = odd (ap (λ t. get_or t 0 0) p)
-no_space text some odd (Two a b) f p = odd (ap (λ t. get_or t 0 0) p)
-
-pub unspaced : (text : List ℕ) → 0 < length text → (get_or text 0 0 ≡ 32 → ⊥) → Reads NumbersFit numbers_text text None
-unspaced text some odd = reads_none NumbersFit numbers_text text (no_space text some odd)
-
 bad_first : (rest : List ℕ) (e : ℕ) → Reads Small decimal (take e rest) None → (n : Numbers) → NumbersFit n → Behind rest e n → ⊥
 bad_first rest e r Zero f h = h
 bad_first rest e r (One a) f h = never_read Small decimal _ r a f h.0

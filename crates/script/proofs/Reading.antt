@@ -1,5 +1,8 @@
 -- What reads a text, and what doesn't.
-use Rattle.std.proofs.Common.{◌≡◌, ℕ, List, Some, None, ap, subst, arith}
+use Rattle.std.proofs.Common.{◌≡◌, ℕ, List, Some, None, refl, ap, subst, arith}
+use Rattle.std.specs.Prelude.{Result, Ok, Err, IsErr}
+use Rattle.std.specs.Result.{result_ok}
+use Rattle.std.proofs.lemmas.Bool.{false≢true}
 use Rattle.script.specs.Text.{Reads}
 
 pub not_some : {A : Type 0} {B : Type 0} (a : A) → None ≡ Some a → B
@@ -10,6 +13,11 @@ same_some a b e = cc
 
 pub reads_none : {A : Type 0} (Good : A → Type 0) (print : A → List ℕ) (text : List ℕ) → ((a : A) → Good a → text ≡ print a → ⊥) → Reads Good print text None
 reads_none Good print text never = record { prints = λ a e. not_some a e; reads = λ a g e. absurd (never a g e) }
+
+-- an error is no value
+pub no_value : {A : Type 0} {E : Type 0} (r : Result A E) → IsErr r → result_ok r ≡ None
+no_value (Ok a) e = absurd (false≢true e)
+no_value (Err x) e = refl
 
 -- it prints as the text, and nothing else does
 pub reads_some : {A : Type 0} (Good : A → Type 0) (print : A → List ℕ) (text : List ℕ) (a : A) → Good a → text ≡ print a → ((b : A) → Good b → text ≡ print b → a ≡ b) → Reads Good print text (Some a)

@@ -1,56 +1,12 @@
 -- Each verb has a spelling of its own.
-use Rattle.std.proofs.Common.{◌≡◌, ℕ, zero, suc, ◌+◌, ◌*◌, ◌^◌, ◌<◌, Bool, true, false, cond, ◌&&◌, eqb, ltb, List, [], ◌∷◌, length, get_or, drop, Some, decimal, sym, refl, ap, ◌∙◌, arith, drop-cons, ltb-true}
-use Rattle.std.proofs.lemmas.List.{drop_all}
+use Rattle.std.proofs.Common.{◌≡◌, ℕ, zero, suc, ◌^◌, ◌<◌, Bool, true, false, ◌&&◌, ltb, List, [], ◌∷◌, length, get_or, decimal, sym, refl, ap, arith, ltb-true}
 use Rattle.std.proofs.lemmas.Fmt.{decimal_nonempty}
 use Rattle.std.proofs.lemmas.Bool.{both_ways}
 use Rattle.script.proofs.Figures.{digits_only}
-use Rattle.script.proofs.Reading.{reads_some}
 use Rattle.script.proofs.Words.{Spaceless}
 use Rattle.script.specs.declared.line.Verb.{Verb}
 use Rattle.script.specs.declared.line.Verb.TheVariants.{Get, Put, Drop, Next, Mark, Back, Commit, Undo, Turn, Cut, Book}
-use Rattle.script.specs.Text.{Reads}
 use Rattle.script.specs.Order.{verb_text}
-
--- the first two letters tell
-abbrev letters : List ℕ → ℕ
-letters w = get_or w 0 0 * 256 + get_or w 1 0
-
-abbrev spelled : ℕ → Verb
-spelled n = cond (eqb n 26469) Get (cond (eqb n 28789) Put (cond (eqb n 25714) Drop (cond (eqb n 28261) Next (cond (eqb n 28001) Mark (cond (eqb n 25185) Back (cond (eqb n 25455) Commit (cond (eqb n 30062) Undo (cond (eqb n 29813) Turn (cond (eqb n 25461) Cut Book)))))))))
-
-spelled_verb : (v : Verb) → spelled (letters (verb_text v)) ≡ v
-spelled_verb Get = refl
-spelled_verb Put = refl
-spelled_verb Drop = refl
-spelled_verb Next = refl
-spelled_verb Mark = refl
-spelled_verb Back = refl
-spelled_verb Commit = refl
-spelled_verb Undo = refl
-spelled_verb Turn = refl
-spelled_verb Cut = refl
-spelled_verb Book = refl
-
-same_verb : (v w : Verb) → verb_text v ≡ verb_text w → v ≡ w
-same_verb v w e = sym (spelled_verb v) ∙ ap (λ t. spelled (letters t)) e ∙ spelled_verb w
-
--- each letter of v stands in w from i on
-abbrev pub Letters : List ℕ → ℕ → List ℕ → Type 0
-Letters w i [] = Unit {0}
-Letters w i (x ∷ v) = (get_or w i 0 ≡ x) × Letters w (suc i) v
-
-from_letters : (w v : List ℕ) (i : ℕ) → length w ≡ i + length v → Letters w i v → drop i w ≡ v
-from_letters w [] i e h = drop_all i w (omega arith)
-from_letters w (x ∷ v) i e h =
-    let first = drop-cons w i 0 (omega arith) in
-    let rest = from_letters w v (suc i) (omega arith) h.1 in
-    let here = h.0 in
-    cc
-
-pub reads_verb : (v : Verb) (w : List ℕ) → length w ≡ length (verb_text v) → Letters w 0 (verb_text v) → Reads (λ _. Unit {0}) verb_text w (Some v)
-reads_verb v w e h =
-    let spelt : w ≡ verb_text v = from_letters w (verb_text v) 0 (omega arith) h in
-    reads_some (λ _. Unit {0}) verb_text w v tt spelt (λ a _ f. same_verb v a (sym spelt ∙ f))
 
 -- all letters, which come after the digits
 abbrev lettered : List ℕ → Bool

@@ -1,6 +1,5 @@
 -- Where the first word of a text ends.
 use Rattle.std.proofs.Common.{◌≡◌, ℕ, ◌+◌, ◌-◌, ◌^◌, ◌<◌, List, ◌++◌, length, get_or, take, drop, decimal, sym, ap, ◌∙◌, inl, inr, add-zero, arith, length-append, length-drop}
-use native.Mathlib.Nat.{sub-zero}
 use Rattle.std.proofs.lemmas.List.{get_or_append_left, get_or-append-add, take_at, drop_at, take_all}
 use Rattle.std.proofs.lemmas.Bool.{cases_order}
 use Rattle.script.specs.Words.{WordEnd}
@@ -35,10 +34,6 @@ pub word_is : (text w t : List ℕ) (e : ℕ) → WordEnd text e → text ≡ w 
 word_is text w t e h p clean sp =
     let same = end_is text w t e h p clean sp in
     (ap (take e) p ∙ take_at w t e same, ap (drop e) p ∙ drop_at w t e same)
-
--- a part up to a place, and one to the end
-pub front_is : (s : List ℕ) (e : ℕ) → take (e - 0) s ≡ take e s
-front_is s e = rw (sub-zero e)
 
 pub back_is : (s : List ℕ) (i : ℕ) → take (length s - i) (drop i s) ≡ drop i s
 back_is s i = take_all (length s - i) (drop i s) (omega (arith, length-drop i s))

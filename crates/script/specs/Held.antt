@@ -1,11 +1,6 @@
--- What a line buffer holds.
+-- What a line buffer holds, seen as the line so far; None where it is too long.
 -- Assumes nothing.
-use Rattle.std.specs.Prelude.{ℕ, cond, List, [], ◌∷◌, ◌++◌, length, take, Some, None, Option, nat_le, nat_lt}
-use Rattle.script.specs.declared.buffer.LineBuffer.{LineBuffer}
-
--- the line so far; None where it is too long
-abbrev pub held : LineBuffer → Option (List ℕ)
-held b = cond (nat_le b.len 64) (Some (take b.len b.bytes)) None
+use Rattle.std.specs.Prelude.{ℕ, cond, List, [], ◌∷◌, ◌++◌, length, Some, None, Option, nat_lt}
 
 -- with one byte more
 abbrev pub with : ℕ → Option (List ℕ) → Option (List ℕ)

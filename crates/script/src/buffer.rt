@@ -1,58 +1,65 @@
 // A line as it comes in, byte by byte.
-ghost use Rattle.std.specs.Prelude.{◌≡◌, true, [], Some, None, MatchOption};
-ghost use Rattle.script.specs.Held.{held, with};
+ghost use Rattle.std.specs.Prelude.{◌≡◌, ◌↔◌, IsTrue, [], Some, None, MatchOption};
+ghost use Rattle.script.specs.Held.{with};
+
+use arrayvec::ArrayVec;
+use std::marker::Model;
 
 // Every command is shorter.
 const LONGEST: usize = 64;
 
+// Clauses see the bytes so far, and None where the line is too long.
 #[derive(Drop)]
 pub struct LineBuffer {
-    bytes: [u8; 64],
-    // one more than there is room for where the line is too long
-    len: usize,
+    text: Option<ArrayVec<u8, LONGEST>>,
+}
+
+impl Model for LineBuffer {
+    ghost use Rattle.std.specs.Prelude.{ℕ, List, Option};
+    ghost use Rattle.std.specs.Option.{option_map};
+
+    ghost Value = { Option (List ℕ) };
+
+    ghost view = { λ b. option_map (λ t. t.items) b.text };
 }
 
 impl LineBuffer {
     pub fn new() -> LineBuffer
-        ensures { held result ≡ Some [] }
+        ensures { result ≡ Some [] }
     {
         LineBuffer {
-            bytes: [0; 64],
-            len: 0,
+            text: Some(ArrayVec::new()),
         }
     }
 
     pub fn is_empty(&self) -> bool
-        ensures { (result ≡ true → held self.now ≡ Some []) × (held self.now ≡ Some [] → result ≡ true) }
+        ensures { IsTrue result ↔ (self.now ≡ Some []) }
     {
-        self.len == 0
+        matches!(&self.text, Some(text) if text.is_empty())
     }
 
     pub fn push(&mut self, b: u8)
-        ensures { held self.new ≡ with b (held self.old) }
+        ensures { self.new ≡ with b self.old }
     {
-        if self.len < LONGEST {
-            self.bytes[self.len] = b;
-            self.len += 1;
-        } else {
-            self.len = LONGEST + 1;
+        match &mut self.text {
+            Some(text) if !text.is_full() => text.push(b),
+            _ => self.text = None,
         }
     }
 
     // None where the line is too long.
     pub fn text(&self) -> Option<&[u8]>
-        ensures { MatchOption result (held self.now ≡ None) (λ t. held self.now ≡ Some t.now) }
+        ensures { MatchOption result (self.now ≡ None) (λ t. self.now ≡ Some t.now) }
     {
-        if self.len <= LONGEST {
-            Some(&self.bytes[0..self.len])
-        } else {
-            None
+        match &self.text {
+            Some(text) => Some(text.as_slice()),
+            None => None,
         }
     }
 
     pub fn clear(&mut self)
-        ensures { held self.new ≡ Some [] }
+        ensures { self.new ≡ Some [] }
     {
-        self.len = 0;
+        self.text = Some(ArrayVec::new());
     }
 }

@@ -6,14 +6,15 @@ pub mod line;
 pub mod show;
 
 pub use buffer::LineBuffer;
+use clerk::Clerk;
 use deals::{Answer, Op};
-pub use line::parse;
+pub use line::ParseError;
 
 // What one line of a script asks for.
 #[derive(Clone, Copy)]
 pub enum Command {
     // a clerk asks
-    Ask { who: u32, op: Op },
+    Ask { who: Clerk, op: Op },
     // so many turns
     Turn(u64),
     // the power goes at that asking of the disk, and what is left is chosen by a number

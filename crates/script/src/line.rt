@@ -1,21 +1,40 @@
 // Reading a line. A line has one command, its words with one space between them.
 ghost use Rattle.std.specs.Prelude.{◌≡◌, ℕ, ◌+◌, ◌^◌, ◌<◌, ◌≤◌, List, length, decimal};
+ghost use Rattle.std.specs.Result.{result_ok};
 ghost use Rattle.script.specs.Text.{Reads, Fits, text_of};
 ghost use Rattle.script.specs.Words.{WordEnd};
-ghost use Rattle.script.specs.Order.{verb_text, numbers_text, NumbersFit, OrderFits, order_text, plain_op, key_op, word_op, op_of, own_command};
+ghost use Rattle.script.specs.Order.{verb_text, numbers_text, NumbersFit, OrderFits, order_text, op_of, own_command};
 
 use super::Command;
+use clerk::{CLERKS, Clerk, NoSuchClerk};
 use deals::Op;
-
-const CLERKS: u64 = 32;
-
-// Marks are numbers of 32 bits.
-const MARKS: u64 = 4_294_967_296;
+use std::num::{ParseIntError, TryFromIntError};
+use std::str::Utf8Error;
+use thiserror::Error;
 
 // A life has fewer turns than this.
 const TURNS: u64 = 16_777_216;
 
-#[derive(Clone, Copy)]
+// Why a text isn't what it is read as.
+#[derive(Debug, Drop, Error)]
+pub enum ParseError {
+    #[error("not a verb")]
+    Verb,
+    #[error("not what the verb takes")]
+    Order,
+    #[error("a number with no figures, a sign or a leading nought")]
+    Figures,
+    #[error(transparent)]
+    Text(#[from] Utf8Error),
+    #[error(transparent)]
+    Number(#[from] ParseIntError),
+    #[error(transparent)]
+    Range(#[from] TryFromIntError),
+    #[error(transparent)]
+    Clerk(#[from] NoSuchClerk),
+}
+
+#[derive(Clone, Copy, Debug, PartialEq, Eq)]
 pub enum Verb {
     Get,
     Put,
@@ -30,7 +49,7 @@ pub enum Verb {
     Book,
 }
 
-#[derive(Clone, Copy)]
+#[derive(Clone, Copy, Debug, PartialEq, Eq)]
 pub enum Numbers {
     Zero,
     One(u64),
@@ -38,7 +57,7 @@ pub enum Numbers {
 }
 
 // A line without its clerk.
-#[derive(Clone, Copy)]
+#[derive(Clone, Copy, Debug, PartialEq, Eq)]
 pub struct Order {
     pub verb: Verb,
     pub numbers: Numbers,
@@ -48,167 +67,136 @@ pub struct Order {
 fn word_end(text: &[u8]) -> usize
     ensures { WordEnd text.now result }
 {
-    for (i, b) in text.iter().enumerate() {
-        if *b == b' ' {
-            return i;
-        }
-    }
-    text.len()
+    text.iter().position(|b| *b == b' ').unwrap_or(text.len())
 }
 
 // A number, with no sign and no leading nought.
-fn read_number(word: &[u8]) -> Option<u64>
-    ensures { Reads (λ n. n < 2 ^ 64) decimal word.now result }
+#[tactic(auto, using(crate::proofs::Figures::unbegun, crate::proofs::Figures::nought))]
+fn read_number(word: &[u8]) -> Result<u64, ParseError>
+    ensures { Reads (λ n. n < 2 ^ 64) decimal word.now (result_ok result) }
 {
-    if word.len() == 0 || word[0] == b'+' || (word[0] == b'0' && word.len() > 1) {
-        return None;
-    }
-    match std::str::from_utf8(word) {
-        Ok(text) => text.parse::<u64>().ok(),
-        Err(_) => None,
+    match word.first() {
+        Some(b'1'..=b'9') => Ok(std::str::from_utf8(word)?.parse::<u64>()?),
+        Some(b'0') if word.len() == 1 => Ok(0),
+        _ => Err(ParseError::Figures),
     }
 }
 
-fn read_verb(word: &[u8]) -> Option<Verb>
-    ensures { Reads (λ _. Unit {0}) verb_text word.now result }
-{
-    match word {
-        b"get" => Some(Verb::Get),
-        b"put" => Some(Verb::Put),
-        b"drop" => Some(Verb::Drop),
-        b"next" => Some(Verb::Next),
-        b"mark" => Some(Verb::Mark),
-        b"back" => Some(Verb::Back),
-        b"commit" => Some(Verb::Commit),
-        b"undo" => Some(Verb::Undo),
-        b"turn" => Some(Verb::Turn),
-        b"cut" => Some(Verb::Cut),
-        b"book" => Some(Verb::Book),
-        _ => None,
+impl TryFrom<&[u8]> for Verb {
+    type Error = ParseError;
+
+    ghost try_from_gives = { λ word r. Reads (λ _. Unit {0}) verb_text word.now (result_ok r) };
+
+    fn try_from(word: &[u8]) -> Result<Verb, ParseError> {
+        match word {
+            b"get" => Ok(Verb::Get),
+            b"put" => Ok(Verb::Put),
+            b"drop" => Ok(Verb::Drop),
+            b"next" => Ok(Verb::Next),
+            b"mark" => Ok(Verb::Mark),
+            b"back" => Ok(Verb::Back),
+            b"commit" => Ok(Verb::Commit),
+            b"undo" => Ok(Verb::Undo),
+            b"turn" => Ok(Verb::Turn),
+            b"cut" => Ok(Verb::Cut),
+            b"book" => Ok(Verb::Book),
+            _ => Err(ParseError::Verb),
+        }
     }
 }
 
-// The numbers after a verb, each after a space.
-fn read_numbers(text: &[u8]) -> Option<Numbers>
-    ensures { Reads NumbersFit numbers_text text.now result }
-{
-    if text.len() == 0 {
-        return Some(Numbers::Zero);
+impl TryFrom<&[u8]> for Numbers {
+    type Error = ParseError;
+
+    ghost try_from_gives = { λ text r. Reads NumbersFit numbers_text text.now (result_ok r) };
+
+    // Each number stands after a space.
+    fn try_from(text: &[u8]) -> Result<Numbers, ParseError> {
+        match text {
+            [] => Ok(Numbers::Zero),
+            [b' ', rest @ ..] => {
+                let (first, more) = rest.split_at(word_end(rest));
+                let first = read_number(first)?;
+                match more {
+                    [] => Ok(Numbers::One(first)),
+                    [_, second @ ..] => Ok(Numbers::Two(first, read_number(second)?)),
+                }
+            }
+            _ => Err(ParseError::Order),
+        }
     }
-    if text[0] != b' ' {
-        return None;
-    }
-    let rest = &text[1..];
-    let end = word_end(rest);
-    let first = read_number(&rest[0..end])?;
-    if end == rest.len() {
-        return Some(Numbers::One(first));
-    }
-    let second = read_number(&rest[end + 1..])?;
-    Some(Numbers::Two(first, second))
 }
 
-fn read_order(text: &[u8]) -> Option<Order>
-    ensures { Reads OrderFits order_text text.now result }
-{
-    let end = word_end(text);
-    let verb = read_verb(&text[0..end])?;
-    let numbers = read_numbers(&text[end..])?;
-    Some(Order { verb, numbers })
+impl TryFrom<&[u8]> for Order {
+    type Error = ParseError;
+
+    ghost try_from_gives = { λ text r. Reads OrderFits order_text text.now (result_ok r) };
+
+    fn try_from(text: &[u8]) -> Result<Order, ParseError> {
+        let (verb, numbers) = text.split_at(word_end(text));
+        Ok(Order {
+            verb: verb.try_into()?,
+            numbers: numbers.try_into()?,
+        })
+    }
 }
 
 // What an order asks of the office.
-fn op_of(order: Order) -> Option<Op>
-    ensures { result ≡ op_of order.verb order.numbers }
-{
-    match order.numbers {
-        Numbers::Zero => plain_op(order.verb),
-        Numbers::One(k) => key_op(order.verb, k),
-        Numbers::Two(k, x) => word_op(order.verb, k, x),
-    }
-}
+impl TryFrom<Order> for Op {
+    type Error = ParseError;
 
-fn plain_op(verb: Verb) -> Option<Op>
-    ensures { result ≡ plain_op verb }
-{
-    match verb {
-        Verb::Mark => Some(Op::Mark),
-        Verb::Commit => Some(Op::Commit),
-        Verb::Undo => Some(Op::Undo),
-        _ => None,
-    }
-}
+    ghost try_from_gives = { λ order r. result_ok r ≡ op_of order.verb order.numbers };
 
-fn key_op(verb: Verb, k: u64) -> Option<Op>
-    ensures { result ≡ key_op verb k }
-{
-    match verb {
-        Verb::Get => Some(Op::Get(k)),
-        Verb::Drop => Some(Op::Drop(k)),
-        Verb::Next => Some(Op::Next(k)),
-        Verb::Back => {
-            if k < MARKS {
-                Some(Op::Back(k as u32))
-            } else {
-                None
-            }
+    fn try_from(order: Order) -> Result<Op, ParseError> {
+        match (order.verb, order.numbers) {
+            (Verb::Get, Numbers::One(k)) => Ok(Op::Get(k)),
+            (Verb::Put, Numbers::Two(k, x)) => Ok(Op::Put(k, x)),
+            (Verb::Drop, Numbers::One(k)) => Ok(Op::Drop(k)),
+            (Verb::Next, Numbers::One(k)) => Ok(Op::Next(k)),
+            (Verb::Mark, Numbers::Zero) => Ok(Op::Mark),
+            (Verb::Back, Numbers::One(mark)) => Ok(Op::Back(mark.try_into()?)),
+            (Verb::Commit, Numbers::Zero) => Ok(Op::Commit),
+            (Verb::Undo, Numbers::Zero) => Ok(Op::Undo),
+            _ => Err(ParseError::Order),
         }
-        _ => None,
-    }
-}
-
-fn word_op(verb: Verb, k: u64, x: u64) -> Option<Op>
-    ensures { result ≡ word_op verb k x }
-{
-    match verb {
-        Verb::Put => Some(Op::Put(k, x)),
-        _ => None,
     }
 }
 
 // What an order asks that no clerk asks.
-fn own_command(order: Order) -> Option<Command>
-    ensures { result ≡ own_command order.verb order.numbers }
+fn own_command(order: Order) -> Result<Command, ParseError>
+    ensures { result_ok result ≡ own_command order.verb order.numbers }
 {
-    match order.numbers {
-        Numbers::Zero => match order.verb {
-            Verb::Book => Some(Command::Book),
-            _ => None,
-        },
-        Numbers::One(n) => match order.verb {
-            Verb::Turn => {
-                if n < TURNS {
-                    Some(Command::Turn(n))
-                } else {
-                    None
-                }
-            }
-            _ => None,
-        },
-        Numbers::Two(after, choice) => match order.verb {
-            Verb::Cut => Some(Command::Cut { after, choice }),
-            _ => None,
-        },
+    match (order.verb, order.numbers) {
+        (Verb::Turn, Numbers::One(n)) if n < TURNS => Ok(Command::Turn(n)),
+        (Verb::Cut, Numbers::Two(after, choice)) => Ok(Command::Cut { after, choice }),
+        (Verb::Book, Numbers::Zero) => Ok(Command::Book),
+        _ => Err(ParseError::Order),
     }
 }
 
 // The command of a line, without its line's end.
-pub fn parse(line: &[u8]) -> Option<Command>
-    ensures { Reads Fits text_of line.now result }
-{
-    let end = word_end(line);
-    match read_number(&line[0..end]) {
-        Some(who) => {
-            if who >= CLERKS || end == line.len() {
-                return None;
+impl TryFrom<&[u8]> for Command {
+    type Error = ParseError;
+
+    ghost try_from_gives = { λ line r. Reads Fits text_of line.now (result_ok r) };
+
+    fn try_from(line: &[u8]) -> Result<Command, ParseError> {
+        let (word, rest) = line.split_at(word_end(line));
+        match read_number(word) {
+            Ok(number) => {
+                let who = Clerk::try_from(u32::try_from(number)?)?;
+                prove!(who.index() < CLERKS);
+                let [_, rest @ ..] = rest else {
+                    return Err(ParseError::Verb);
+                };
+                let order = Order::try_from(rest)?;
+                Ok(Command::Ask {
+                    who,
+                    op: order.try_into()?,
+                })
             }
-            let op = op_of(read_order(&line[end + 1..])?)?;
-            Some(Command::Ask {
-                who: who as u32,
-                op,
-            })
+            Err(_) => own_command(line.try_into()?),
         }
-        None => own_command(read_order(line)?),
     }
 }
 
@@ -226,7 +214,7 @@ mod tests {
             "cut 0 18446744073709551615",
             "book",
         ] {
-            assert!(rt; parse(line.as_bytes()).is_some(), "{}", line);
+            assert!(rt; Command::try_from(line.as_bytes()).is_ok(), "{}", line);
         }
     }
 
@@ -246,7 +234,7 @@ mod tests {
             "turn 16777216",
             "3 book",
         ] {
-            assert!(rt; parse(line.as_bytes()).is_none(), "{}", line);
+            assert!(rt; Command::try_from(line.as_bytes()).is_err(), "{}", line);
         }
     }
 }

@@ -1,24 +1,20 @@
-use Rattle.std.proofs.Common.{⊎_elim, arith}
-use Rattle.script.proofs.Figures.{Begins, reads_figures, no_figures, no_text}
+use Rattle.std.proofs.Common.{arith}
+use Rattle.std.proofs.lemmas.Grind.{common_steps}
+use Rattle.script.proofs.Figures.{Figure, reads_figures, no_text}
+use Rattle.script.proofs.Reading.{no_value}
 use Rattle.script.proofs.line.read_number.Goals as goal
-use Rattle.script.proofs.line.read_number.Goals.{then-word-eq0-via-then-word-eq0, then-word-eq0-via-else-word-eq0+then-word-eq43, then-word-eq0-via-else-word-eq0+else-word-eq43+then-word-gt1}
 
-pub returns-in-Ok : goal.returns-in-Ok
-returns-in-Ok c =
-    let begins : Begins c.args.word.now = record {
-      some = omega arith;
-      unsigned = λ e. omega arith;
-      short = λ e. ⊎_elim (λ h. omega arith) (λ h. omega arith) c.if-word-gt1.either;
-    } in
-    rw c.ok.ensures.value (reads_figures _ _ begins (rw c.in-Ok.ensures.cases.0 at c.parse.ensures.value.0))
+pub returns-in_err-from_utf8-in-Some-49-to-57 : goal.returns-in_err-from_utf8-in-Some-49-to-57
+returns-in_err-from_utf8-in-Some-49-to-57 c = rw (no_value _ c.from_residual.ensures.0) (no_text _ c.in_err-from_utf8-in-Some-49-to-57.ensures.cases.0)
 
-pub returns-in-Err : goal.returns-in-Err
-returns-in-Err c = no_text _ c.in-Err.ensures.cases.0
+pub returns-in_err-parse-in-Some-49-to-57 : goal.returns-in_err-parse-in-Some-49-to-57
+returns-in_err-parse-in-Some-49-to-57 c =
+    let figure : Figure c.args.word.now = grind (arith, common_steps) in
+    let read = reads_figures c.args.word.now c.parse.result figure (rw c.in_ok-from_utf8-in-Some-49-to-57.ensures.cases.0 at c.parse.ensures.value.0) in
+    rw (no_value _ c.from_residual-in_err-parse-in-Some-49-to-57.ensures.0) (rw c.in_err-parse-in-Some-49-to-57.was at read)
 
-pub returns-then-word-eq0 : goal.returns-then-word-eq0
-returns-then-word-eq0 c =
-    no_figures _ (λ b. elim c.then-word-eq0.branch [
-      | then-word-eq0-via-then-word-eq0 w ↦ omega (arith, b.some)
-      | then-word-eq0-via-else-word-eq0+then-word-eq43 w ↦ b.unsigned (omega arith)
-      | then-word-eq0-via-else-word-eq0+else-word-eq43+then-word-gt1 w ↦ omega (arith, b.short w.if-word-gt1.true.0)
-    ])
+pub returns-in_ok-parse-in-Some-49-to-57 : goal.returns-in_ok-parse-in-Some-49-to-57
+returns-in_ok-parse-in-Some-49-to-57 c =
+    let figure : Figure c.args.word.now = grind (arith, common_steps) in
+    let read = reads_figures c.args.word.now c.parse.result figure (rw c.in_ok-from_utf8-in-Some-49-to-57.ensures.cases.0 at c.parse.ensures.value.0) in
+    rw c.in_ok-parse-in-Some-49-to-57.was at read
