@@ -6,7 +6,7 @@ ghost use Rattle.script.specs.Words.{WordEnd};
 ghost use Rattle.script.specs.Order.{verb_text, numbers_text, NumbersFit, OrderFits, order_text, op_of, own_command};
 
 use super::Command;
-use clerk::{CLERKS, Clerk, NoSuchClerk};
+use clerk::{Clerk, NoSuchClerk};
 use deals::Op;
 use std::num::{ParseIntError, TryFromIntError};
 use std::str::Utf8Error;
@@ -185,7 +185,6 @@ impl TryFrom<&[u8]> for Command {
         match read_number(word) {
             Ok(number) => {
                 let who = Clerk::try_from(u32::try_from(number)?)?;
-                prove!(who.index() < CLERKS);
                 let [_, rest @ ..] = rest else {
                     return Err(ParseError::Verb);
                 };

@@ -40,8 +40,8 @@ pub returns-in_ok-try_into-in-Ok : goal.returns-in_ok-try_into-in-Ok
 returns-in_ok-try_into-in-Ok c =
     let word = rw c.split_at.ensures.front at c.in-Ok.ensures in
     let order = simp back_is at (rw c.split_at.ensures.back at c.in_ok-order-in-Ok.ensures) in
-    let is : c.in_ok-who-in-Ok.who ≡ c.in-Ok.number = c.in_ok-who-in-Ok.ensures ∙ c.in_ok-try_from-in-Ok.ensures.1 in
-    let small : c.in-Ok.number < 32 = omega (arith, is, c.index.ensures.is, c.index.ensures.low) in
+    let is : c.in_ok-who-in-Ok.who ≡ c.in-Ok.number = c.in_ok-who-in-Ok.ensures.0 ∙ c.in_ok-try_from-in-Ok.ensures.1 in
+    let small : c.in-Ok.number < 32 = omega (arith, is, c.in_ok-who-in-Ok.ensures.1) in
     let more : c.word_end.result < length c.args.line.now = omega (arith, c.split_at.ensures.back_len) in
     rw is (an_ask _ _ _ _ _ c.word_end.ensures word small more (rw (drop-drop 1 c.word_end.result c.args.line.now) at order) c.in_ok-try_into-in-Ok.ensures)
 
