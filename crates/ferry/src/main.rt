@@ -1,28 +1,27 @@
 // Plays a script from standard input on a disk in memory.
 #![tactic(auto)]
 
-use deals::{Pages, Power};
+use deals::Power;
 use memdisk::MemDisk;
-use player::{Player, Sink};
+use pages::PAGE_WORDS;
+use player::{Cuts, Player, Sink, Stage};
 use script::{LineBuffer, Output};
 use std::io;
-use std::io::Read;
+use std::io::Write;
 
-// 1,024 pages of 512 words.
-const DISK: usize = 524_288;
+// Words of the disk, which has 1,024 pages.
+const DISK: usize = 1_024 * PAGE_WORDS;
 
+// Words of the room, which has two megabytes.
 const ROOM: usize = 262_144;
 
 // Old contents of 240 pages.
-const SAVED: usize = 122_880;
+const SAVED: usize = SAVED_PAGES * PAGE_WORDS;
 
 const SAVED_PAGES: usize = 240;
 
 // 64 cuts, of two words each.
 const CUTS: usize = 128;
-
-// How much is read at a time.
-const CHUNK: usize = 4_096;
 
 #[derive(Drop)]
 struct Printer<'a> {
@@ -41,72 +40,50 @@ impl Sink for Printer<'_> {
     }
 }
 
-// The line that is coming, and how many came before.
+// A script that is played line by line as its text is written here.
 #[derive(Drop)]
-struct Input {
+struct Script<'a, D, S> {
+    stage: Stage<'a, D, S>,
+    player: Player,
     line: LineBuffer,
+    // the lines that came before this one
     past: u64,
 }
 
-// A line that is too long for the buffer is longer than any command.
-fn end_line<S: Sink>(
-    input: &mut Input,
-    player: &mut Player,
-    disk: &mut MemDisk<'_>,
-    room: &mut [u64],
-    out: &mut S,
-) {
-    input.past = input.past.saturating_add(1);
-    match input.line.text() {
-        Some(text) => player.play_line(input.past, text, disk, room, out),
-        None => out.put(Output::BadLine(input.past)),
+impl<D: Power + Cuts, S: Sink> Script<'_, D, S> {
+    // A line that is too long for the buffer is longer than any command.
+    fn end_line(&mut self) {
+        self.past = self.past.saturating_add(1);
+        match self.line.text() {
+            Some(text) => self.player.play_line(self.past, text, &mut self.stage),
+            None => self.stage.out.put(Output::BadLine(self.past)),
+        }
+        self.line.clear();
     }
-    input.line.clear();
-}
 
-fn feed<S: Sink>(
-    bytes: &[u8],
-    input: &mut Input,
-    player: &mut Player,
-    disk: &mut MemDisk<'_>,
-    room: &mut [u64],
-    out: &mut S,
-) {
-    for b in bytes {
-        if *b == b'\n' {
-            end_line(input, player, disk, room, out);
-        } else {
-            input.line.push(*b);
+    // The last line may have no end of its own.
+    fn end(&mut self) {
+        if !self.line.is_empty() {
+            self.end_line();
         }
     }
 }
 
-fn play<S: Sink>(
-    rt: &HostRuntime,
-    disk: &mut MemDisk<'_>,
-    room: &mut [u64],
-    out: &mut S,
-) -> io::Result<()> {
-    let Some(mut player) = Player::begin(disk, room, out) else {
-        return Ok(());
-    };
-    let mut stdin = rt.stdin();
-    let mut chunk = [0u8; CHUNK];
-    let mut input = Input {
-        line: LineBuffer::new(),
-        past: 0,
-    };
-    for _ in 0..u64::MAX {
-        let n = stdin.read(&mut chunk)?;
-        if n == 0 {
-            break;
+impl<D: Power + Cuts, S: Sink> Write for Script<'_, D, S> {
+    fn write(&mut self, text: &[u8]) -> io::Result<usize> {
+        for b in text {
+            if *b == b'\n' {
+                self.end_line();
+            } else {
+                self.line.push(*b);
+            }
         }
-        feed(&chunk[0..n], &mut input, &mut player, disk, room, out);
+        Ok(text.len())
     }
-    if !input.line.is_empty() {
-        end_line(&mut input, &mut player, disk, room, out);
+
+    fn flush(&mut self) -> io::Result<()> {
+        Ok(())
     }
-    Ok(())
 }
 
 fn main(rt: HostRuntime) -> io::Result<()> {
@@ -115,17 +92,29 @@ fn main(rt: HostRuntime) -> io::Result<()> {
     let mut saved_of = [0u64; SAVED_PAGES];
     let mut cuts = [0u64; CUTS];
     let mut room = [0u64; ROOM];
-    let mut disk = MemDisk::new(
-        shown.as_mut_slice(),
-        saved.as_mut_slice(),
-        saved_of.as_mut_slice(),
-        cuts.as_mut_slice(),
-    );
-    let mut out = Printer {
-        rt: &rt,
-        result: Ok(()),
+    let mut stage = Stage {
+        disk: MemDisk::new(
+            shown.as_mut_slice(),
+            saved.as_mut_slice(),
+            saved_of.as_mut_slice(),
+            cuts.as_mut_slice(),
+        ),
+        room: room.as_mut_slice(),
+        out: Printer {
+            rt: &rt,
+            result: Ok(()),
+        },
     };
-    play(&rt, &mut disk, room.as_mut_slice(), &mut out)?;
-    let Printer { rt: _, result } = out;
-    result
+    let Some(player) = Player::begin(&mut stage) else {
+        return stage.out.result;
+    };
+    let mut script = Script {
+        stage,
+        player,
+        line: LineBuffer::new(),
+        past: 0,
+    };
+    io::copy(&mut rt.stdin(), &mut script)?;
+    script.end();
+    script.stage.out.result
 }

@@ -1,26 +1,38 @@
 -- What a turn leaves, and what waiting for a clerk leaves.
 -- Assumes nothing.
-use Rattle.std.specs.Prelude.{◌≡◌, ◌+◌, ◌<◌, ◌≤◌, List}
+use Rattle.std.specs.Prelude.{◌≡◌, ℕ, ◌+◌, ◌<◌, ◌≤◌, List, Option, Some, None, Result, Ok, Err, IsSomeAnd}
+use Rattle.std.specs.Option.{option_map, option_map_or}
+use Rattle.deals.specs.declared.Answer.{Answer}
+use Rattle.deals.specs.declared.Gone.{Gone}
+use Rattle.player.specs.declared.lives.Life.{Life}
 use Rattle.player.specs.declared.seats.Seat.{Seat}
-use Rattle.player.specs.declared.plays.Turned.{Turned}
-use Rattle.player.specs.declared.plays.Turned.TheVariants as turned
-use Rattle.player.specs.declared.plays.Waited.{Waited}
-use Rattle.player.specs.declared.plays.Waited.TheVariants as waited
 use Rattle.player.specs.declared.plays.Player.{Player}
 use Rattle.player.specs.Seating.{told, nobody}
 
 -- who sits where after a turn
-abbrev pub after_turn : Turned → List Seat → List Seat
-after_turn turned.Quiet seats = seats
-after_turn (turned.Told who a) seats = told who a seats
-after_turn turned.Gone seats = seats
+abbrev pub after_turn : Result (Option (ℕ × Answer)) Gone → List Seat → List Seat
+after_turn (Ok None) seats = seats
+after_turn (Ok (Some t)) seats = told t.0 t.1 seats
+after_turn (Err e) seats = seats
 
--- the same life
-abbrev pub Same : Player → Player → Type 0
-Same p q = (q.life.number ≡ p.life.number) × (q.over ≡ p.over)
+-- there is a life, with so many turns left
+abbrev pub HasTurns : ℕ → Option Life → Type 0
+HasTurns n o = IsSomeAnd o (λ life. life.turns + n ≤ 16777215)
+
+-- the turns that a life had
+abbrev pub turns_of : Option Life → ℕ
+turns_of o = option_map_or (λ life. life.turns) o 0
+
+-- the lives that there were, with this one
+abbrev pub lives_of : Option Life → ℕ
+lives_of o = option_map_or (λ life. life.number) o 0
+
+-- the same life, or none before and none after
+abbrev pub SameLife : Option Life → Option Life → Type 0
+SameLife o p = option_map (λ life. life.number) p ≡ option_map (λ life. life.number) o
 
 -- nothing of the life but its turns changes, from t to u; or it ended
-abbrev pub Waits : Waited → Player → Player → Type 0
-Waits (waited.Told a) p q = Same p q × (p.life.turns < q.life.turns) × (q.life.turns ≤ p.life.turns + 64)
-Waits waited.Late p q = Same p q × (q.life.turns ≡ p.life.turns + 64)
-Waits waited.Gone p q = q.seats.list ≡ nobody
+abbrev pub Waits : Result (Option Answer) Gone → Player → Player → Type 0
+Waits (Ok (Some a)) p q = SameLife p.life q.life × (turns_of p.life < turns_of q.life) × (turns_of q.life ≤ turns_of p.life + 64)
+Waits (Ok None) p q = SameLife p.life q.life × (turns_of q.life ≡ turns_of p.life + 64)
+Waits (Err e) p q = q.seats ≡ nobody

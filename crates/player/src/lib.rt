@@ -6,7 +6,9 @@ pub mod plays;
 pub mod power;
 pub mod seats;
 pub mod sink;
+pub mod stage;
 
 pub use plays::Player;
 pub use power::Cuts;
 pub use sink::Sink;
+pub use stage::Stage;

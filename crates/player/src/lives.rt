@@ -2,8 +2,9 @@
 ghost use Rattle.std.specs.Prelude.{◌≡◌, ℕ, ◌+◌, ◌<◌, ◌≤◌, false, IfSome, is_ok, nat_le};
 
 use crate::sink::Sink;
-use deals::{Answer, Gone, Office, Op, Pages, Power, open};
-use script::Output;
+use crate::stage::Stage;
+use clerk::Clerk;
+use deals::{Answer, Gone, Office, Op, Power, open};
 
 // There are fewer lives than 2^24.
 const LAST_LIFE: u64 = 16_777_215;
@@ -26,40 +27,34 @@ pub struct Life {
     ghost few: { (number ≤ 16777215) × (turns ≤ 16777215) },
 }
 
-fn open_office<D: Pages + Power>(d: &mut D, room: &mut [u64]) -> Result<Office, Gone>
-    ensures { is_ok result ≡ false → (D.disk d.new).on ≡ false }
-{
-    d.allow(ASKS_TO_OPEN);
-    open(d, room)
+impl<D: Power, S> Stage<'_, D, S> {
+    fn open_office(&mut self) -> Result<Office, Gone>
+        ensures { is_ok result ≡ false → (D.disk self.new.disk).on ≡ false }
+    {
+        self.disk.allow(ASKS_TO_OPEN);
+        open(&mut self.disk, self.room)
+    }
 }
 
-// The life after so many; a later one where the power goes while it opens. None where it was the last.
-pub fn next_life<D: Pages + Power, S: Sink>(
-    d: &mut D,
-    room: &mut [u64],
-    past: u64,
-    out: &mut S,
-) -> Option<Life>
-    ensures { IfSome result (λ life. (past < life.number) × (life.turns ≡ 0)) }
-{
-    let mut number = past;
-    while number < LAST_LIFE {
-        number += 1;
-        match open_office(d, room) {
-            Ok(office) => {
-                return Some(Life {
-                    office,
-                    number,
-                    turns: 0,
-                });
-            }
-            Err(_) => {
-                out.put(Output::Cut);
-                d.back(room);
+impl<D: Power, S: Sink> Stage<'_, D, S> {
+    // The life after so many; a later one where the power goes while it opens. None where it was the last.
+    pub fn next_life(&mut self, past: u64) -> Option<Life>
+        ensures { IfSome result (λ life. (past < life.number) × (life.turns ≡ 0)) }
+    {
+        for before in past..LAST_LIFE {
+            match self.open_office() {
+                Ok(office) => {
+                    return Some(Life {
+                        office,
+                        number: before + 1,
+                        turns: 0,
+                    });
+                }
+                Err(_) => self.come_back(),
             }
         }
+        None
     }
-    None
 }
 
 impl Life {
@@ -76,26 +71,24 @@ impl Life {
         n <= LAST_TURN - self.turns
     }
 
-    pub fn ask(&mut self, room: &mut [u64], who: u32, op: Op)
-        requires { who < 32 }
+    pub fn ask(&mut self, room: &mut [u64], who: Clerk, op: Op)
         ensures number { self.new.number ≡ self.old.number }
         ensures turns { self.new.turns ≡ self.old.turns }
     {
-        self.office.ask(room, who, op);
+        self.office.ask(room, who.number(), op);
     }
 
-    pub fn turn<D: Pages + Power>(
+    pub fn turn<D: Power, S>(
         &mut self,
-        d: &mut D,
-        room: &mut [u64],
+        stage: &mut Stage<'_, D, S>,
     ) -> Result<Option<(u32, Answer)>, Gone>
         requires { self.old.turns < 16777215 }
         ensures number { self.new.number ≡ self.old.number }
         ensures turns { self.new.turns ≡ self.old.turns + 1 }
-        ensures gone { is_ok result ≡ false → (D.disk d.new).on ≡ false }
+        ensures gone { is_ok result ≡ false → (D.disk stage.new.disk).on ≡ false }
     {
         self.turns += 1;
-        d.allow(ASKS_IN_A_TURN);
-        self.office.turn(d, room)
+        stage.disk.allow(ASKS_IN_A_TURN);
+        self.office.turn(&mut stage.disk, stage.room)
     }
 }

@@ -1,17 +1,20 @@
 // What each command does.
-ghost use Rattle.std.specs.Prelude.{◌≡◌, ℕ, ◌+◌, ◌<◌, ◌≤◌, true, false, IfSome, ◌≢◌, nat_le, slice_index_or};
+ghost use Rattle.std.specs.Prelude.{◌≡◌, ℕ, ◌+◌, ◌<◌, ◌≤◌, ◌↔◌, true, false, Ok, Some, IsTrue, IsOk, IsErr, OnErr, OnOk, IsSome, IsNone, IfSome, IfNone, ◌≢◌, nat_le, slice_index_or};
 ghost use Rattle.script.specs.declared.Command.{Command as Asks};
 ghost use Rattle.script.specs.declared.Output.TheVariants.{Busy, BadLine};
 ghost use Rattle.script.specs.Text.{Fits, text_of};
+ghost use Rattle.player.specs.declared.seats.Seat.TheVariants.{Free};
 ghost use Rattle.player.specs.Seating.{is_asked, asked, nobody};
-ghost use Rattle.player.specs.Turning.{after_turn, Waits};
+ghost use Rattle.player.specs.Turning.{HasTurns, SameLife, turns_of, lives_of, after_turn, Waits};
 
-use crate::lives::{Life, next_life};
+use crate::lives::Life;
 use crate::power::Cuts;
-use crate::seats::{Seat, Seats};
+use crate::seats::Seats;
 use crate::sink::Sink;
-use deals::{Answer, Op, Pages, Power};
-use script::{Command, Output, parse};
+use crate::stage::Stage;
+use clerk::Clerk;
+use deals::{Answer, Gone, Op, Power};
+use script::{Command, Output, ParseError};
 
 // How many turns a clerk is waited for.
 const PATIENCE: u64 = 64;
@@ -19,244 +22,202 @@ const PATIENCE: u64 = 64;
 // How much one deal reads of the book.
 const READINGS: u64 = 1_000;
 
-// What a turn brought.
-#[derive(Clone, Copy)]
-pub enum Turned {
-    Quiet,
-    Told(u32, Answer),
-    Gone,
-}
+// A command that isn't played. Nothing has changed then.
+#[derive(Clone, Copy, Debug, PartialEq, Eq)]
+pub struct Refused;
 
-// How it ended that a clerk was waited for.
-#[derive(Clone, Copy)]
-pub enum Waited {
-    Told(Answer),
-    Late,
-    Gone,
+impl From<ParseError> for Refused {
+    fn from(_: ParseError) -> Refused {
+        Refused
+    }
 }
 
 #[derive(Drop)]
 pub struct Player {
-    life: Life,
+    // None when the last one has ended
+    life: Option<Life>,
     seats: Seats,
-    // the last life has ended
-    over: bool,
 }
 
 impl Player {
     // The first life; None where the power went in each.
-    pub fn begin<D: Pages + Power, S: Sink>(
-        d: &mut D,
-        room: &mut [u64],
-        out: &mut S,
-    ) -> Option<Player> {
-        match next_life(d, room, 0, out) {
-            Some(life) => Some(Player {
-                life,
-                seats: Seats::all_free(),
-                over: false,
-            }),
-            None => None,
+    pub fn begin<D: Power, S: Sink>(stage: &mut Stage<'_, D, S>) -> Option<Player> {
+        let life = stage.next_life(0)?;
+        Some(Player {
+            life: Some(life),
+            seats: Seats::all_free(),
+        })
+    }
+
+    // Refused where too few turns are left, or no life is.
+    fn need_turns(&self, n: u64) -> Result<(), Refused>
+        ensures { IsOk result ↔ HasTurns n self.now.life }
+    {
+        match &self.life {
+            Some(life) if life.has_turns(n) => Ok(()),
+            _ => Err(Refused),
         }
     }
 
-    fn ask(&mut self, room: &mut [u64], who: u32, op: Op)
-        requires { who < 32 }
-        ensures seats { self.new.seats.list ≡ asked who op self.old.seats.list }
-        ensures turns { self.new.life.turns ≡ self.old.life.turns }
-        ensures number { self.new.life.number ≡ self.old.life.number }
-        ensures over { self.new.over ≡ self.old.over }
+    fn ask(&mut self, room: &mut [u64], who: Clerk, op: Op)
+        requires { IsSome self.old.life }
+        ensures seats { self.new.seats ≡ asked who op self.old.seats }
+        ensures turns { turns_of self.new.life ≡ turns_of self.old.life }
+        ensures life { SameLife self.old.life self.new.life }
     {
         self.seats.ask(who, op);
-        self.life.ask(room, who, op);
+        self.life.as_mut().unwrap().ask(room, who, op);
     }
 
-    fn turn<D: Pages + Power>(&mut self, d: &mut D, room: &mut [u64]) -> Turned
-        requires { self.old.life.turns < 16777215 }
-        ensures seats { self.new.seats.list ≡ after_turn result self.old.seats.list }
-        ensures turns { self.new.life.turns ≡ self.old.life.turns + 1 }
-        ensures number { self.new.life.number ≡ self.old.life.number }
-        ensures over { self.new.over ≡ self.old.over }
-        ensures gone { result ≡ Turned.Gone → (D.disk d.new).on ≡ false }
-    {
-        match self.life.turn(d, room) {
-            Ok(Some((who, answer))) => {
-                self.seats.tell(who, answer);
-                Turned::Told(who, answer)
-            }
-            Ok(None) => Turned::Quiet,
-            Err(_) => Turned::Gone,
-        }
-    }
-    // The power has gone: it comes back, and the office opens again with nobody's deal.
-    fn restart<D: Pages + Power, S: Sink>(&mut self, d: &mut D, room: &mut [u64], out: &mut S)
-        requires { (D.disk d.old).on ≡ false }
-        ensures seats { self.new.seats.list ≡ nobody }
-        ensures later { self.new.over ≡ false → (self.old.life.number < self.new.life.number) × (self.new.life.turns ≡ 0) }
-    {
-        out.put(Output::Cut);
-        d.back(room);
-        self.seats = Seats::all_free();
-        match next_life(d, room, self.life.number(), out) {
-            Some(life) => {
-                self.life = life;
-            }
-            None => {
-                self.over = true;
-            }
-        }
-    }
-
-    // Turns until that clerk is told; what others are told is printed.
-    fn wait_for<D: Pages + Power, S: Sink>(
+    fn turn<D: Power, S>(
         &mut self,
-        who: u32,
-        d: &mut D,
-        room: &mut [u64],
-        out: &mut S,
-    ) -> Waited
-        requires { self.old.life.turns + 64 ≤ 16777215 }
+        stage: &mut Stage<'_, D, S>,
+    ) -> Result<Option<(u32, Answer)>, Gone>
+        requires { HasTurns 1 self.old.life }
+        ensures seats { self.new.seats ≡ after_turn result self.old.seats }
+        ensures turns { turns_of self.new.life ≡ turns_of self.old.life + 1 }
+        ensures life { SameLife self.old.life self.new.life }
+        ensures gone { IsErr result → (D.disk stage.new.disk).on ≡ false }
+    {
+        let told = self.life.as_mut().unwrap().turn(stage)?;
+        if let Some((who, answer)) = told {
+            self.seats.tell(who, answer);
+        }
+        Ok(told)
+    }
+
+    // The power has gone: it comes back, and the office opens again with nobody's deal.
+    fn restart<D: Power, S: Sink>(&mut self, stage: &mut Stage<'_, D, S>)
+        requires { (D.disk stage.old.disk).on ≡ false }
+        ensures seats { self.new.seats ≡ nobody }
+        ensures later { IfSome self.new.life (λ life. (lives_of self.old.life < life.number) × (life.turns ≡ 0)) }
+    {
+        stage.come_back();
+        self.seats = Seats::all_free();
+        let past = self.life.as_ref().map_or(0, |life| life.number());
+        self.life = stage.next_life(past);
+    }
+
+    // Turns until that clerk is told, or is waited for no longer; what others are told is printed.
+    fn wait_for<D: Power, S: Sink>(
+        &mut self,
+        who: Clerk,
+        stage: &mut Stage<'_, D, S>,
+    ) -> Result<Option<Answer>, Gone>
+        requires { HasTurns 64 self.old.life }
         ensures { Waits result self.old self.new }
     {
         for _turn in 0..PATIENCE {
-            match self.turn(d, room) {
-                Turned::Quiet => {}
-                Turned::Told(told, answer) => {
-                    if told == who {
-                        return Waited::Told(answer);
-                    }
-                    out.put(Output::Told { who: told, answer });
-                }
-                Turned::Gone => {
-                    self.restart(d, room, out);
-                    return Waited::Gone;
+            match self.turn(stage) {
+                Ok(Some((told, answer))) if told == who.number() => return Ok(Some(answer)),
+                Ok(Some((who, answer))) => stage.out.put(Output::Told { who, answer }),
+                Ok(None) => {}
+                Err(gone) => {
+                    self.restart(stage);
+                    return Err(gone);
                 }
             }
         }
-        Waited::Late
+        Ok(None)
     }
-    // A clerk asks, and is waited for. False where too few turns are left for that.
-    fn play_ask<D: Pages + Power, S: Sink>(
+
+    // A clerk asks, and is waited for. Refused where too few turns are left for that.
+    fn play_ask<D: Power, S: Sink>(
         &mut self,
-        who: u32,
+        who: Clerk,
         op: Op,
-        d: &mut D,
-        room: &mut [u64],
-        out: &mut S,
-    ) -> bool
-        requires { who < 32 }
-        ensures busy { is_asked (slice_index_or self.old.seats.list who Seat.Free) ≡ true → S.said out.old (Busy who) out.new × (self.new ≡ self.old) × (result ≡ true) }
-        ensures played { is_asked (slice_index_or self.old.seats.list who Seat.Free) ≡ false → result ≡ nat_le (self.old.life.turns + 64) 16777215 }
-        ensures refused { result ≡ false → (self.new ≡ self.old) × (out.new ≡ out.old) }
+        stage: &mut Stage<'_, D, S>,
+    ) -> Result<(), Refused>
+        ensures busy { is_asked (slice_index_or self.old.seats who Free) ≡ true → S.said stage.old.out (Busy who) stage.new.out × (self.new ≡ self.old) × IsOk result }
+        ensures played { is_asked (slice_index_or self.old.seats who Free) ≡ false → IsOk result ↔ HasTurns 64 self.old.life }
+        ensures refused { OnErr result ((self.new ≡ self.old) × (stage.new.out ≡ stage.old.out)) }
     {
         if self.seats.is_busy(who) {
-            out.put(Output::Busy(who));
-            return true;
+            stage.out.put(Output::Busy(who.number()));
+            return Ok(());
         }
-        if !self.life.has_turns(PATIENCE) {
-            return false;
+        self.need_turns(PATIENCE)?;
+        self.ask(stage.room, who, op);
+        if let Ok(Some(answer)) = self.wait_for(who, stage) {
+            stage.out.put(Output::Told {
+                who: who.number(),
+                answer,
+            });
         }
-        self.ask(room, who, op);
-        if let Waited::Told(answer) = self.wait_for(who, d, room, out) {
-            out.put(Output::Told { who, answer });
-        }
-        true
+        Ok(())
     }
 
-    // False where fewer turns are left. After a cut they go on in the next life.
-    fn play_turns<D: Pages + Power, S: Sink>(
+    // Refused where fewer turns are left. After a cut they go on in the next life.
+    fn play_turns<D: Power, S: Sink>(
         &mut self,
         n: u64,
-        d: &mut D,
-        room: &mut [u64],
-        out: &mut S,
-    ) -> bool
-        ensures played { result ≡ nat_le (self.old.life.turns + n) 16777215 }
-        ensures refused { result ≡ false → (self.new ≡ self.old) × (out.new ≡ out.old) }
+        stage: &mut Stage<'_, D, S>,
+    ) -> Result<(), Refused>
+        ensures played { IsOk result ↔ HasTurns n self.old.life }
+        ensures refused { OnErr result ((self.new ≡ self.old) × (stage.new.out ≡ stage.old.out)) }
     {
-        if !self.life.has_turns(n) {
-            return false;
-        }
+        self.need_turns(n)?;
         for _turn in 0..n {
-            match self.turn(d, room) {
-                Turned::Quiet => {}
-                Turned::Told(who, answer) => {
-                    out.put(Output::Told { who, answer });
-                }
-                Turned::Gone => {
-                    self.restart(d, room, out);
-                    if self.over {
-                        return true;
+            match self.turn(stage) {
+                Ok(Some((who, answer))) => stage.out.put(Output::Told { who, answer }),
+                Ok(None) => {}
+                Err(_) => {
+                    self.restart(stage);
+                    if self.life.is_none() {
+                        break;
                     }
                 }
             }
         }
-        true
+        Ok(())
     }
 
-    // False where no more cuts can be set.
-    fn play_cut<D: Pages + Power + Cuts, S: Sink>(
+    // Refused where no more cuts can be set.
+    fn play_cut<D: Power + Cuts, S: Sink>(
         &mut self,
         after: u64,
         choice: u64,
-        d: &mut D,
-        room: &mut [u64],
-        out: &mut S,
-    ) -> bool
-        ensures later { 0 < after → (self.new ≡ self.old) × (out.new ≡ out.old) }
-        ensures soon { after ≡ 0 → result ≡ true → self.new.seats.list ≡ nobody }
-        ensures refused { result ≡ false → (self.new ≡ self.old) × (out.new ≡ out.old) }
+        stage: &mut Stage<'_, D, S>,
+    ) -> Result<(), Refused>
+        ensures later { 0 < after → (self.new ≡ self.old) × (stage.new.out ≡ stage.old.out) }
+        ensures soon { after ≡ 0 → OnOk result (self.new.seats ≡ nobody) }
+        ensures refused { OnErr result ((self.new ≡ self.old) × (stage.new.out ≡ stage.old.out)) }
     {
-        if !d.set_cut(after, choice) {
-            return false;
-        }
+        stage.disk.set_cut(after, choice)?;
         if after == 0 {
-            self.restart(d, room, out);
+            self.restart(stage);
         }
-        true
+        Ok(())
     }
 
     // What the reader is told for one asking; None where it isn't told, or can't ask.
-    fn look<D: Pages + Power, S: Sink>(
+    fn look<D: Power, S: Sink>(
         &mut self,
-        reader: u32,
+        reader: Clerk,
         op: Op,
-        d: &mut D,
-        room: &mut [u64],
-        out: &mut S,
+        stage: &mut Stage<'_, D, S>,
     ) -> Option<Answer>
-        requires { reader < 32 }
-        ensures { IfSome result (λ a. Waits (Waited.Told a) self.old self.new) }
+        ensures { IfSome result (λ a. Waits (Ok (Some a)) self.old self.new) }
     {
-        if self.over || self.seats.is_busy(reader) || !self.life.has_turns(PATIENCE) {
+        if self.seats.is_busy(reader) {
             return None;
         }
-        self.ask(room, reader, op);
-        match self.wait_for(reader, d, room, out) {
-            Waited::Told(answer) => Some(answer),
-            _ => None,
-        }
+        self.need_turns(PATIENCE).ok()?;
+        self.ask(stage.room, reader, op);
+        self.wait_for(reader, stage).ok()?
     }
 
     // Prints the pairs above key 0, until the reader is told anything else than a pair.
-    fn read_on<D: Pages + Power, S: Sink>(
-        &mut self,
-        reader: u32,
-        d: &mut D,
-        room: &mut [u64],
-        out: &mut S,
-    )
-        requires { reader < 32 }
-    {
+    fn read_on<D: Power, S: Sink>(&mut self, reader: Clerk, stage: &mut Stage<'_, D, S>) {
         let mut key: u64 = 0;
         // the deal has begun with a look at key 0
         let mut readings: u64 = 1;
-        while let Some(Answer::Pair(k, word)) = self.look(reader, Op::Next(key), d, room, out) {
-            out.put(Output::Entry(k, word));
+        while let Some(Answer::Pair(k, word)) = self.look(reader, Op::Next(key), stage) {
+            stage.out.put(Output::Entry(k, word));
             key = k;
             readings += 1;
             if readings == READINGS {
-                if self.look(reader, Op::Undo, d, room, out).is_none() {
+                if self.look(reader, Op::Undo, stage).is_none() {
                     return;
                 }
                 readings = 0;
@@ -264,76 +225,74 @@ impl Player {
         }
     }
 
-    // False where too few turns are left to begin.
-    fn play_book<D: Pages + Power, S: Sink>(
-        &mut self,
-        d: &mut D,
-        room: &mut [u64],
-        out: &mut S,
-    ) -> bool
-        ensures refused { result ≡ false → (self.new ≡ self.old) × (out.new ≡ out.old) }
+    // Refused where too few turns are left to begin.
+    fn play_book<D: Power, S: Sink>(&mut self, stage: &mut Stage<'_, D, S>) -> Result<(), Refused>
+        ensures refused { OnErr result ((self.new ≡ self.old) × (stage.new.out ≡ stage.old.out)) }
     {
         let Some(reader) = self.seats.first_free() else {
-            out.put(Output::End);
-            return true;
+            stage.out.put(Output::End);
+            return Ok(());
         };
-        if !self.life.has_turns(PATIENCE) {
-            return false;
-        }
-        match self.look(reader, Op::Get(0), d, room, out) {
+        self.need_turns(PATIENCE)?;
+        match self.look(reader, Op::Get(0), stage) {
             Some(Answer::Word(word)) => {
-                out.put(Output::Entry(0, word));
-                self.read_on(reader, d, room, out);
+                stage.out.put(Output::Entry(0, word));
+                self.read_on(reader, stage);
             }
-            Some(Answer::Missing) => self.read_on(reader, d, room, out),
+            Some(Answer::Missing) => self.read_on(reader, stage),
             _ => {}
         }
         if self.seats.is_dealing(reader) {
-            let _ = self.look(reader, Op::Undo, d, room, out);
+            let _ = self.look(reader, Op::Undo, stage);
         }
-        out.put(Output::End);
-        true
+        stage.out.put(Output::End);
+        Ok(())
     }
 
-    // False where the command is refused; nothing has changed then.
-    fn play<D: Pages + Power + Cuts, S: Sink>(
+    fn play<D: Power + Cuts, S: Sink>(
         &mut self,
         command: Command,
-        d: &mut D,
-        room: &mut [u64],
-        out: &mut S,
-    ) -> bool
+        stage: &mut Stage<'_, D, S>,
+    ) -> Result<(), Refused>
         requires { Fits command }
-        ensures refused { result ≡ false → (self.new ≡ self.old) × (out.new ≡ out.old) }
-        ensures ended { self.old.over ≡ true → result ≡ false }
+        ensures refused { OnErr result ((self.new ≡ self.old) × (stage.new.out ≡ stage.old.out)) }
+        ensures ended { IsNone self.old.life → IsErr result }
     {
-        if self.over {
-            return false;
+        if self.life.is_none() {
+            return Err(Refused);
         }
         match command {
-            Command::Ask { who, op } => self.play_ask(who, op, d, room, out),
-            Command::Turn(n) => self.play_turns(n, d, room, out),
-            Command::Cut { after, choice } => self.play_cut(after, choice, d, room, out),
-            Command::Book => self.play_book(d, room, out),
+            Command::Ask { who, op } => self.play_ask(who, op, stage),
+            Command::Turn(n) => self.play_turns(n, stage),
+            Command::Cut { after, choice } => self.play_cut(after, choice, stage),
+            Command::Book => self.play_book(stage),
         }
+    }
+
+    // Refused where the line has no command, too.
+    fn play_text<D: Power + Cuts, S: Sink>(
+        &mut self,
+        line: &[u8],
+        stage: &mut Stage<'_, D, S>,
+    ) -> Result<(), Refused>
+        ensures bad { ((c : Asks) → Fits c → line.now ≢ text_of c) → IsErr result }
+        ensures refused { OnErr result ((self.new ≡ self.old) × (stage.new.out ≡ stage.old.out)) }
+    {
+        let command = Command::try_from(line)?;
+        self.play(command, stage)
     }
 
     // Plays the line of that number.
-    pub fn play_line<D: Pages + Power + Cuts, S: Sink>(
+    pub fn play_line<D: Power + Cuts, S: Sink>(
         &mut self,
         number: u64,
         line: &[u8],
-        d: &mut D,
-        room: &mut [u64],
-        out: &mut S,
+        stage: &mut Stage<'_, D, S>,
     )
-        ensures bad { ((c : Asks) → Fits c → line.now ≢ text_of c) → S.said out.old (BadLine number) out.new × (self.new ≡ self.old) }
+        ensures bad { ((c : Asks) → Fits c → line.now ≢ text_of c) → S.said stage.old.out (BadLine number) stage.new.out × (self.new ≡ self.old) }
     {
-        if let Some(command) = parse(line) {
-            if self.play(command, d, room, out) {
-                return;
-            }
+        if self.play_text(line, stage).is_err() {
+            stage.out.put(Output::BadLine(number));
         }
-        out.put(Output::BadLine(number));
     }
 }

@@ -1,12 +1,12 @@
 // Who has a deal, and who waits for an answer.
-ghost use Rattle.std.specs.Prelude.{◌≡◌, ℕ, ◌+◌, ◌<◌, ◌≤◌, Bool, true, false, length, replicate, MatchOption, slice_index_or};
-ghost use Rattle.player.specs.Seating.{ends_deal, is_asked, is_free, is_dealing, after_answer, asked, told};
+ghost use Rattle.std.specs.Prelude.{◌≡◌, ℕ, ◌<◌, Bool, true, false, MatchOption, slice_index_or};
+ghost use Rattle.player.specs.Seating.{ends_deal, is_asked, is_free, is_dealing, after_answer, asked, told, nobody};
 
+use clerk::{CLERKS, Clerk};
 use deals::{Answer, Op};
+use std::marker::Model;
 
-pub const CLERKS: u32 = 32;
-
-#[derive(Clone, Copy)]
+#[derive(Clone, Copy, Debug, PartialEq, Eq)]
 pub enum Seat {
     // no deal, and nothing under way
     Free,
@@ -16,89 +16,84 @@ pub enum Seat {
     Asked(bool),
 }
 
+// A seat for each clerk. Clauses see them in the clerks' order.
 #[derive(Drop)]
 pub struct Seats {
-    list: [Seat; 32],
+    list: [Seat; CLERKS],
+}
+
+impl Model for Seats {
+    ghost use Rattle.std.specs.Prelude.{List};
+    ghost use Rattle.player.specs.declared.seats.Seat.{Seat};
+
+    ghost Value = { List Seat };
+
+    ghost view = { λ s. s.list };
 }
 
 fn ends_deal(op: Op) -> bool
     ensures { result ≡ ends_deal op }
 {
-    match op {
-        Op::Commit | Op::Undo => true,
-        _ => false,
-    }
+    matches!(op, Op::Commit | Op::Undo)
 }
 
-// A deal ends when a commit or an undo is done, and by a clash.
-fn after_answer(seat: Seat, answer: Answer) -> Seat
-    ensures { result ≡ after_answer seat answer }
-{
-    match answer {
-        Answer::Clash => Seat::Free,
-        Answer::Done => match seat {
-            Seat::Asked(true) => Seat::Free,
+impl Seat {
+    // A deal ends when a commit or an undo is done, and by a clash.
+    fn after(self, answer: Answer) -> Seat
+        ensures { result ≡ after_answer self answer }
+    {
+        match (self, answer) {
+            (_, Answer::Clash) | (Seat::Asked(true), Answer::Done) => Seat::Free,
             _ => Seat::Dealing,
-        },
-        _ => Seat::Dealing,
+        }
     }
 }
 
 impl Seats {
     pub fn all_free() -> Seats
-        ensures { result.list ≡ replicate 32 Seat.Free }
+        ensures { result ≡ nobody }
     {
         Seats {
-            list: [Seat::Free; 32],
+            list: [Seat::Free; CLERKS],
         }
     }
 
-    pub fn is_busy(&self, who: u32) -> bool
-        requires { who < 32 }
-        ensures { result ≡ is_asked (slice_index_or self.now.list who Seat.Free) }
+    pub fn is_busy(&self, who: Clerk) -> bool
+        ensures { result ≡ is_asked (slice_index_or self.now who Seat.Free) }
     {
-        match self.list[who as usize] {
-            Seat::Asked(_) => true,
-            _ => false,
-        }
+        matches!(self.list[who.index()], Seat::Asked(_))
     }
 
-    pub fn is_dealing(&self, who: u32) -> bool
-        requires { who < 32 }
-        ensures { result ≡ is_dealing (slice_index_or self.now.list who Seat.Free) }
+    pub fn is_dealing(&self, who: Clerk) -> bool
+        ensures { result ≡ is_dealing (slice_index_or self.now who Seat.Free) }
     {
-        match self.list[who as usize] {
-            Seat::Dealing => true,
-            _ => false,
-        }
+        matches!(self.list[who.index()], Seat::Dealing)
     }
 
-    pub fn ask(&mut self, who: u32, op: Op)
-        requires { who < 32 }
-        ensures { self.new.list ≡ asked who op self.old.list }
+    pub fn ask(&mut self, who: Clerk, op: Op)
+        ensures { self.new ≡ asked who op self.old }
     {
-        self.list[who as usize] = Seat::Asked(ends_deal(op));
+        self.list[who.index()] = Seat::Asked(ends_deal(op));
     }
 
     // Nobody sits past the last clerk.
     pub fn tell(&mut self, who: u32, answer: Answer)
-        ensures { self.new.list ≡ told who answer self.old.list }
+        ensures { self.new ≡ told who answer self.old }
     {
-        if who < CLERKS {
-            let i = who as usize;
-            self.list[i] = after_answer(self.list[i], answer);
+        if let Ok(clerk) = Clerk::try_from(who) {
+            let seat = &mut self.list[clerk.index()];
+            *seat = seat.after(answer);
         }
     }
 
     // The first clerk who has no deal and nothing under way.
-    pub fn first_free(&self) -> Option<u32>
-        ensures { MatchOption result ((k : ℕ) → k < 32 → is_free (slice_index_or self.now.list k Seat.Free) ≡ false) (λ w. (w < 32) × (is_free (slice_index_or self.now.list w Seat.Free) ≡ true) × ((k : ℕ) → k < w → is_free (slice_index_or self.now.list k Seat.Free) ≡ false)) }
+    pub fn first_free(&self) -> Option<Clerk>
+        ensures { MatchOption result ((k : ℕ) → k < 32 → is_free (slice_index_or self.now k Seat.Free) ≡ false) (λ w. (w < 32) × (is_free (slice_index_or self.now w Seat.Free) ≡ true) × ((k : ℕ) → k < w → is_free (slice_index_or self.now k Seat.Free) ≡ false)) }
     {
-        for who in 0..CLERKS {
-            if let Seat::Free = self.list[who as usize] {
-                return Some(who);
-            }
-        }
-        None
+        let place = self
+            .list
+            .iter()
+            .position(|seat| matches!(seat, Seat::Free))?;
+        Some(Clerk::new(place as u32))
     }
 }

@@ -1,4 +1,4 @@
-// Where what is printed goes.
+// Where what is printed goes. A trait and no closure: each player's function would ask that the closure may be called.
 ghost use Rattle.script.specs.declared.Output.{Output as Line};
 
 use script::Output;

@@ -1,5 +1,5 @@
-use Rattle.std.proofs.Common.{◌+◌, ◌≤◌}
+use Rattle.std.proofs.Common.{◌+◌, ◌≤◌, IsSomeAnd}
 use Rattle.player.proofs.plays.Player.play_turns.Given as goal
 
 abbrev pub invariant-loop-turn : goal.invariant-loop-turn
-invariant-loop-turn g l = l.self.life.turns + l.n ≤ 16777215 + l._turn
+invariant-loop-turn g l = IsSomeAnd l.self.life (λ life. life.turns + l.n ≤ 16777215 + l._turn)
