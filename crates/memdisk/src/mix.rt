@@ -24,7 +24,7 @@ pub fn mix(choice: u64, n: u64) -> u64
 pub fn scramble(room: &mut [u64], choice: u64)
     ensures { (i : ℕ) → i < length room.new → slice_index room.new i ≡ mix_of choice i }
 {
-    for i in 0..room.len() {
-        room[i] = mix(choice, i as u64);
+    for (i, word) in room.iter_mut().enumerate() {
+        *word = mix(choice, i as u64);
     }
 }
