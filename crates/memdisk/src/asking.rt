@@ -20,7 +20,7 @@ impl From<Outage> for Gone {
     }
 }
 
-impl<'a> MemDisk<'a> {
+impl MemDisk<'_> {
     // How many cuts are set.
     pub fn pending(&self) -> usize
         ensures { result ≡ length (dues_in self.now) }

@@ -33,6 +33,7 @@ impl Entry {
 }
 
 // How many of the entries are of page p.
+#[tactic(auto, using(crate::proofs::Entries::count_is))]
 fn count_of(entries: &[Entry], p: u64) -> usize
     ensures few { result + 1 < 2 ^ 64 }
     ensures count { result ≡ length (entries_of p entries.now) }
@@ -60,7 +61,7 @@ fn leave(shown: &mut [u64], entries: &[Entry], choice: u64)
     }
 }
 
-impl<'a> MemDisk<'a> {
+impl MemDisk<'_> {
     // A full table is emptied first: all that is shown lasts then. Where there is no room at all nothing is kept.
     pub(crate) fn keep(&mut self, entry: Entry)
         ensures { Keeping self.old entry self.new }

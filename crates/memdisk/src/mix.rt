@@ -4,6 +4,7 @@ ghost use Rattle.memdisk.specs.Mixing.{stirred, mix_of};
 
 const GOLDEN: u64 = 0x9e3779b97f4a7c15;
 
+#[tactic(auto, unfolding(crate::specs::Mixing::stirred))]
 fn stir(z: u64, k: u32, factor: u64) -> u64
     requires { k < 64 }
     ensures { result ≡ stirred z k factor }
@@ -12,6 +13,7 @@ fn stir(z: u64, k: u32, factor: u64) -> u64
 }
 
 // Splitmix64, from a state made of both.
+#[tactic(auto, unfolding(crate::specs::Mixing::mix_of, crate::specs::Mixing::splitmix))]
 pub fn mix(choice: u64, n: u64) -> u64
     ensures { result ≡ mix_of choice n }
 {

@@ -11,7 +11,7 @@ use crate::mix::scramble;
 use deals::{Gone, Pages, Power};
 use pages::{pages_in, put_page};
 
-impl<'a> Pages for MemDisk<'a> {
+impl Pages for MemDisk<'_> {
     ghost disk = { disk_of };
 
     fn pages(&self) -> u64 {
@@ -50,6 +50,7 @@ impl<'a> Pages for MemDisk<'a> {
         }
     }
 
+    #[tactic(auto, using(crate::proofs::Disks::syncing_done, crate::proofs::Disks::syncing_goes))]
     fn sync(&mut self) -> Result<(), Gone>
         requires { 0 < (disk_of self.old).left }
         ensures syncs { Syncing (disk_of self.old) (is_ok result) (disk_of self.new) }
@@ -64,7 +65,7 @@ impl<'a> Pages for MemDisk<'a> {
     }
 }
 
-impl<'a> Power for MemDisk<'a> {
+impl Power for MemDisk<'_> {
     fn allow(&mut self, asks: u64) {
         self.left = asks;
     }
