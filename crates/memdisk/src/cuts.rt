@@ -1,11 +1,11 @@
 // The cuts that are set, in the order in which they were set.
-ghost use Rattle.std.specs.Prelude.{◌≡◌, ◌-◌, nat_le, not};
+ghost use Rattle.std.specs.Prelude.{◌≡◌, nat_le};
 ghost use Rattle.memdisk.specs.Dues.{later, coming};
 
 use crate::lent::Lent;
 
 // A cut that is set: with which asking from here on it comes, and the choice of what it leaves.
-#[derive(Clone, Copy)]
+#[derive(Clone, Copy, Debug, PartialEq, Eq)]
 pub struct Due {
     pub(crate) asks: u64,
     pub(crate) choice: u64,
@@ -20,15 +20,6 @@ impl Due {
         ensures { result ≡ nat_le self.now.asks 1 }
     {
         self.asks <= 1
-    }
-
-    // One asking on. Says whether the cut is still to come.
-    fn nears(&mut self) -> bool
-        ensures { (result ≡ not (nat_le self.old.asks 1)) × (self.new ≡ record { asks = self.old.asks - 1; choice = self.old.choice }) }
-    {
-        let came = self.comes();
-        self.asks = self.asks.saturating_sub(1);
-        !came
     }
 }
 
@@ -46,7 +37,11 @@ impl Lent<'_, Due> {
             .filter(|due| due.comes())
             .map(|due| due.choice)
             .last();
-        self.retain_mut(|due| due.nears());
+        self.retain_mut(|due| {
+            let comes = due.comes();
+            due.asks = due.asks.saturating_sub(1);
+            !comes
+        });
         came
     }
 }

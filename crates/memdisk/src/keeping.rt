@@ -9,7 +9,7 @@ use crate::mix::mix;
 use pages::{PAGE_WORDS, page, pages_in, put_page};
 
 // What a page held once.
-#[derive(Clone, Copy)]
+#[derive(Clone, Copy, Debug, PartialEq, Eq)]
 pub struct Entry {
     page: u64,
     words: [u64; PAGE_WORDS],
