@@ -2,7 +2,7 @@
 #![tactic(auto)]
 
 use deals::Power;
-use memdisk::MemDisk;
+use memdisk::{Due, Entry, MemDisk};
 use pages::PAGE_WORDS;
 use player::{Cuts, Player, Sink, Stage};
 use script::{LineBuffer, Output};
@@ -15,13 +15,11 @@ const DISK: usize = 1_024 * PAGE_WORDS;
 // Words of the room, which has two megabytes.
 const ROOM: usize = 262_144;
 
-// Old contents of 240 pages.
-const SAVED: usize = SAVED_PAGES * PAGE_WORDS;
+// How many old contents of pages the disk keeps.
+const SAVED: usize = 240;
 
-const SAVED_PAGES: usize = 240;
-
-// 64 cuts, of two words each.
-const CUTS: usize = 128;
+// How many cuts can be set.
+const CUTS: usize = 64;
 
 #[derive(Drop)]
 struct Printer<'a> {
@@ -88,15 +86,13 @@ impl<D: Power + Cuts, S: Sink> Write for Script<'_, D, S> {
 
 fn main(rt: HostRuntime) -> io::Result<()> {
     let mut shown = [0u64; DISK];
-    let mut saved = [0u64; SAVED];
-    let mut saved_of = [0u64; SAVED_PAGES];
-    let mut cuts = [0u64; CUTS];
+    let mut saved = [Entry::BLANK; SAVED];
+    let mut cuts = [Due::BLANK; CUTS];
     let mut room = [0u64; ROOM];
     let mut stage = Stage {
         disk: MemDisk::new(
             shown.as_mut_slice(),
             saved.as_mut_slice(),
-            saved_of.as_mut_slice(),
             cuts.as_mut_slice(),
         ),
         room: room.as_mut_slice(),

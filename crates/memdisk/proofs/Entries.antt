@@ -1,13 +1,14 @@
 -- What a page held, by the entries; and on which of these the choice falls.
-use Rattle.std.proofs.Common.{◌≡◌, ℕ, zero, suc, ◌+◌, ◌<◌, true, false, cond, ◌&&◌, eqb, ltb, ◌⊎◌, List, [], ◌∷◌, ◌++◌, length, get_or, take, sym, refl, ap, ◌∙◌, subst, inl, inr, arith}
+use Rattle.std.proofs.Common.{◌≡◌, ℕ, zero, suc, ◌+◌, ◌<◌, true, false, cond, eqb, ltb, ◌⊎◌, List, [], ◌∷◌, ◌++◌, length, get_or, take, count_by, sym, refl, ap, ◌∙◌, subst, inl, inr, arith}
 use mathlib.Core.List.Memᴰ
 use mathlib.Core.List.{Memᴰ}
 use Rattle.std.proofs.lemmas.List.{length_push, get_or_append_left, get_or_push, get_or_past}
-use Rattle.std.proofs.lemmas.Bool.{cases_eq, cases_order, eq-eqb, ne_eqb, lt-ltb}
+use Rattle.std.proofs.lemmas.List.Recursion.{is_count_by}
+use Rattle.std.proofs.lemmas.Bool.{cases_eq, cases_order, eq-eqb, ne_eqb}
 use Rattle.deals.specs.Disk.{at}
-use Rattle.memdisk.specs.Layout.{page_at, Entry, table_of, entries_of, kept}
+use Rattle.memdisk.specs.declared.keeping.Entry.{Entry}
+use Rattle.memdisk.specs.Entries.{entries_of, kept}
 use Rattle.memdisk.proofs.Places.{at_same, at_other}
-use Rattle.memdisk.proofs.Table.{table_next}
 
 pub push_same : (p : ℕ) (es : List Entry) (e : Entry) → e.page ≡ p → entries_of p (es ++ (e ∷ [])) ≡ entries_of p es ++ (e.words ∷ [])
 unfolding entries_of
@@ -23,14 +24,13 @@ unfolding entries_of
 push_other p [] e ne = rw (ne_eqb e.page p ne)
 push_other p (x ∷ es) e ne = ap (λ r. cond (eqb x.page p) (x.words ∷ r) r) (push_other p es e ne)
 
--- a count, one entry on
-pub count_same : (ns ss : List ℕ) (i p n : ℕ) → n ≡ length (entries_of p (table_of ns ss i)) → get_or ns i 0 ≡ p → n + 1 ≡ length (entries_of p (table_of ns ss (i + 1)))
-count_same ns ss i p n e z =
-    ap (λ n. n + 1) e ∙ sym (ap (λ es. length (entries_of p es)) (table_next ns ss i) ∙ ap length (push_same p (table_of ns ss i) (record { page = get_or ns i 0; words = page_at ss i }) z) ∙ length_push (entries_of p (table_of ns ss i)) (page_at ss i))
-
-pub count_other : (ns ss : List ℕ) (i p n : ℕ) → n ≡ length (entries_of p (table_of ns ss i)) → (get_or ns i 0 ≡ p → ⊥) → n ≡ length (entries_of p (table_of ns ss (i + 1)))
-count_other ns ss i p n e ne =
-    e ∙ sym (ap (λ es. length (entries_of p es)) (table_next ns ss i) ∙ ap length (push_other p (table_of ns ss i) (record { page = get_or ns i 0; words = page_at ss i }) ne))
+-- how many entries are of a page
+pub count_is : (p : ℕ) (es : List Entry) → length (entries_of p es) ≡ count_by (λ e. eqb e.page p) es
+unfolding entries_of
+count_is p = is_count_by (λ es. length (entries_of p es)) (λ e. eqb e.page p) refl (λ e es. elim (eqb e.page p) as (λ b. length (cond b (e.words ∷ entries_of p es) (entries_of p es)) ≡ cond b (1 + length (entries_of p es)) (length (entries_of p es))) [
+  | true ↦ omega arith
+  | false ↦ refl
+])
 
 -- WHAT MAY BE LEFT of a page after one entry more: an older one, or this
 mem_push : (q : ℕ) (es : List Entry) (e : Entry) (x : List ℕ) → Memᴰ x (entries_of q (es ++ (e ∷ []))) → Memᴰ x (entries_of q es) ⊎ ((e.page ≡ q) × (x ≡ e.words))
@@ -66,6 +66,10 @@ get_d_mem x xs (suc k) = under x xs k
     under x (y ∷ ys) zero = Memᴰ.tail (Memᴰ.head refl)
     under x (y ∷ ys) (suc k) = elim (Memᴰ.cases_cons (under x ys k)) [ inl e ↦ Memᴰ.head e | inr m ↦ Memᴰ.tail (Memᴰ.tail m) ]
 
+pub get_d_alone : (x : List ℕ) (k : ℕ) → get_or (x ∷ []) k x ≡ x
+get_d_alone x zero = refl
+get_d_alone x (suc k) = refl
+
 get_d_last : (x w : List ℕ) (xs : List (List ℕ)) (k : ℕ) → k ≡ suc (length xs) → get_or (x ∷ (xs ++ (w ∷ []))) k x ≡ w
 get_d_last x w xs k e = ap (λ k. get_or (x ∷ (xs ++ (w ∷ []))) k x) e ∙ get_or_push xs w x (length xs) refl
 
@@ -79,38 +83,25 @@ get_d_older x w xs (suc k) ne = elim (cases_order k (length xs)) [
   ]
 ]
 
--- one more entry is offered: f has the pages as the cut found them, g as the older entries leave them, h as this one does
-pub choice_more : (f g h : ℕ → List ℕ) (pages : ℕ) (pick : ℕ → ℕ) (es : List Entry) (e : Entry) →
-    h ≡ cond (ltb e.page pages && eqb (suc (length (entries_of e.page es))) (pick e.page)) (at e.page e.words g) g →
-    ((q : ℕ) → q < pages → g q ≡ get_or (f q ∷ entries_of q es) (pick q) (f q)) → (q : ℕ) → q < pages → h q ≡ get_or (f q ∷ entries_of q (es ++ (e ∷ []))) (pick q) (f q)
-choice_more f g h pages pick es e s inv q l = elim (cases_eq q e.page) [
-  | inl z ↦ here z
-  | inr ne ↦ away ne ∙ inv q l ∙ sym (ap (λ xs. get_or (f q ∷ xs) (pick q) (f q)) (push_other q es e (λ z. ne (sym z))))
-]
-  where
-    away : (q ≡ e.page → ⊥) → h q ≡ g q
-    away ne = ap (λ f. f q) s ∙
-        elim (ltb e.page pages && eqb (suc (length (entries_of e.page es))) (pick e.page)) as (λ b. (cond b (at e.page e.words g) g) q ≡ g q) [
-          | true ↦ at_other e.page q e.words g ne
-          | false ↦ refl
-        ]
+-- one more entry: f has the pages as the cut found them, g as the older entries leave them, h as this one does
+module _ (f g h : ℕ → List ℕ) (pages : ℕ) (pick : ℕ → ℕ) (es : List Entry) (e : Entry) where
+  abbrev left : List Entry → ℕ → List ℕ
+  left es q = get_or (f q ∷ entries_of q es) (pick q) (f q)
 
-    won : q ≡ e.page → suc (length (entries_of q es)) ≡ pick q → h q ≡ e.words
-    won z w =
-        let in' : ltb e.page pages ≡ true = lt-ltb e.page pages (omega arith) in
-        let hit : eqb (suc (length (entries_of e.page es))) (pick e.page) ≡ true = eq-eqb (suc (length (entries_of e.page es))) (pick e.page) (subst (λ q. suc (length (entries_of q es)) ≡ pick q) z w) in
-        ap (λ f. f q) s ∙ rw (in', hit) (at_same e.page q e.words g z)
+  ours : (q : ℕ) → q ≡ e.page → left (es ++ (e ∷ [])) q ≡ get_or (f q ∷ (entries_of q es ++ (e.words ∷ []))) (pick q) (f q)
+  ours q z = ap (λ xs. get_or (f q ∷ xs) (pick q) (f q)) (push_same q es e (sym z))
 
-    lost : q ≡ e.page → (suc (length (entries_of q es)) ≡ pick q → ⊥) → h q ≡ g q
-    lost z n =
-        let in' : ltb e.page pages ≡ true = lt-ltb e.page pages (omega arith) in
-        let miss : eqb (suc (length (entries_of e.page es))) (pick e.page) ≡ false = ne_eqb (suc (length (entries_of e.page es))) (pick e.page) (λ w. n (subst (λ q. suc (length (entries_of q es)) ≡ pick q) (sym z) w)) in
-        ap (λ f. f q) s ∙ rw (in', miss)
+  others : (q : ℕ) → (q ≡ e.page → ⊥) → left (es ++ (e ∷ [])) q ≡ left es q
+  others q ne = ap (λ xs. get_or (f q ∷ xs) (pick q) (f q)) (push_other q es e (λ z. ne (sym z)))
 
-    here : q ≡ e.page → h q ≡ get_or (f q ∷ entries_of q (es ++ (e ∷ []))) (pick q) (f q)
-    here z =
-        let all : get_or (f q ∷ entries_of q (es ++ (e ∷ []))) (pick q) (f q) ≡ get_or (f q ∷ (entries_of q es ++ (e.words ∷ []))) (pick q) (f q) = ap (λ xs. get_or (f q ∷ xs) (pick q) (f q)) (push_same q es e (sym z)) in
-        elim (cases_eq (suc (length (entries_of q es))) (pick q)) [
-          | inl w ↦ won z w ∙ sym (all ∙ get_d_last (f q) e.words (entries_of q es) (pick q) (sym w))
-          | inr n ↦ lost z n ∙ inv q l ∙ sym (all ∙ get_d_older (f q) e.words (entries_of q es) (pick q) n)
-        ]
+  pub choice_won : suc (length (entries_of e.page es)) ≡ pick e.page → h ≡ at e.page e.words g → ((q : ℕ) → q < pages → g q ≡ left es q) → (q : ℕ) → q < pages → h q ≡ left (es ++ (e ∷ [])) q
+  choice_won w s inv q l = elim (cases_eq q e.page) [
+    | inl z ↦ ap (λ f. f q) s ∙ at_same e.page q e.words g z ∙ sym (ours q z ∙ get_d_last (f q) e.words (entries_of q es) (pick q) (subst (λ q. pick q ≡ suc (length (entries_of q es))) (sym z) (sym w)))
+    | inr ne ↦ ap (λ f. f q) s ∙ at_other e.page q e.words g ne ∙ inv q l ∙ sym (others q ne)
+  ]
+
+  pub choice_lost : (e.page < pages → suc (length (entries_of e.page es)) ≡ pick e.page → ⊥) → h ≡ g → ((q : ℕ) → q < pages → g q ≡ left es q) → (q : ℕ) → q < pages → h q ≡ left (es ++ (e ∷ [])) q
+  choice_lost n s inv q l = ap (λ f. f q) s ∙ inv q l ∙ sym (elim (cases_eq q e.page) [
+    | inl z ↦ ours q z ∙ get_d_older (f q) e.words (entries_of q es) (pick q) (λ w. n (subst (λ p. p < pages) z l) (subst (λ q. suc (length (entries_of q es)) ≡ pick q) z w))
+    | inr ne ↦ others q ne
+  ])

@@ -3,7 +3,9 @@ use Rattle.std.proofs.Common.{◌≡◌, ℕ, ◌<◌, ◌≤◌, ◌⊎◌, Lis
 use mathlib.Core.List.{Memᴰ}
 use Rattle.std.proofs.lemmas.Bool.{cases_lt, cases_eq, lt-ltb, le-ltb}
 use Rattle.deals.specs.Disk.{at, Within}
-use Rattle.memdisk.specs.Layout.{page_at, pages_in, Entry, entries_of, kept}
+use Rattle.pages.specs.Pages.{page_at, pages_in}
+use Rattle.memdisk.specs.declared.keeping.Entry.{Entry}
+use Rattle.memdisk.specs.Entries.{entries_of, kept}
 use Rattle.memdisk.specs.Memory.{may_of}
 use Rattle.memdisk.proofs.Places.{at_same, at_other}
 use Rattle.memdisk.proofs.Entries.{mem_kept}

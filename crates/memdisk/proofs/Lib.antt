@@ -1,8 +1,7 @@
-pub mod Places
+pub mod Retaining
 pub mod Counting
-pub mod Powered
+pub mod Places
 pub mod Table
 pub mod Entries
 pub mod Leaving
 pub mod Disks
-pub mod Choice

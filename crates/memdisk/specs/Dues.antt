@@ -1,15 +1,7 @@
 -- The cuts that are set, in the order in which they were set.
 -- Assumes nothing.
-use Rattle.std.specs.Prelude.{ℕ, zero, suc, ◌+◌, ◌-◌, ◌*◌, cond, List, [], ◌∷◌, ◌++◌, Some, None, Option, nat_le, slice_index}
+use Rattle.std.specs.Prelude.{ℕ, ◌-◌, cond, List, [], ◌∷◌, Some, None, Option, nat_le}
 use Rattle.memdisk.specs.declared.cuts.Due.{Due}
-
--- two words each
-unfoldable pub due_at : List ℕ → ℕ → Due
-due_at ws i = record { asks = slice_index ws (2 * i); choice = slice_index ws (2 * i + 1) }
-
-unfoldable pub dues_of : List ℕ → ℕ → List Due
-dues_of ws zero = []
-dues_of ws (suc n) = dues_of ws n ++ (due_at ws n ∷ [])
 
 -- One asking later: those that come then are gone, and the others are one asking nearer.
 unfoldable pub later : List Due → List Due

@@ -1,4 +1,5 @@
-pub mod Layout
+pub mod Bounded
+pub mod Entries
 pub mod Mixing
 pub mod Dues
 pub mod Memory

@@ -1,55 +1,84 @@
-// The table of what pages held before.
-ghost use Rattle.std.specs.Prelude.{◌≡◌, ◌<◌, ◌≤◌, min, length};
-ghost use Rattle.memdisk.specs.Layout.{page_at, pages_in, entries_of};
-ghost use Rattle.memdisk.specs.Memory.{room_of, table_in, before, entry_in, picked, wins, Keeping, Forgetting, Offering, Choosing};
+// What pages held before, and what a cut leaves of them.
+ghost use Rattle.std.specs.Prelude.{◌≡◌, ℕ, ◌+◌, ◌^◌, ◌<◌, length};
+ghost use Rattle.pages.specs.Pages.{page_at, page_words, pages_in};
+ghost use Rattle.memdisk.specs.Entries.{entries_of};
+ghost use Rattle.memdisk.specs.Memory.{table_in, picked, chosen, Keeping, Choosing};
 
 use crate::MemDisk;
-use crate::layout::{WORDS, copy_in, copy_out, pages_in};
 use crate::mix::mix;
+use pages::{PAGE_WORDS, page, pages_in, put_page};
 
-impl<'a> MemDisk<'a> {
-    // How many entries there is room for.
-    fn room(&self) -> usize
-        ensures { result ≡ room_of self.now }
+// What a page held once.
+#[derive(Clone, Copy, Debug, PartialEq, Eq)]
+pub struct Entry {
+    page: u64,
+    words: [u64; PAGE_WORDS],
+}
+
+impl Entry {
+    // What to lend before anything is kept.
+    pub const BLANK: Entry = Entry {
+        page: 0,
+        words: [0; PAGE_WORDS],
+    };
+
+    pub(crate) fn of(page: u64, held: &[u64]) -> Entry
+        requires { length held.now ≡ page_words }
+        ensures { result ≡ record { page = page; words = held.now } }
     {
-        self.saved_of.len().min(pages_in(self.saved))
+        let mut words = [0; PAGE_WORDS];
+        words.copy_from_slice(held);
+        Entry { page, words }
     }
+}
 
-    fn entries(&self) -> usize
-        ensures { result ≡ min self.now.held (room_of self.now) }
-    {
-        self.held.min(self.room())
-    }
+// How many of the entries are of page p.
+#[tactic(auto, using(crate::proofs::Entries::count_is))]
+fn count_of(entries: &[Entry], p: u64) -> usize
+    ensures few { result + 1 < 2 ^ 64 }
+    ensures count { result ≡ length (entries_of p entries.now) }
+{
+    entries.iter().filter(|entry| entry.page == p).count()
+}
 
-    // A full table is emptied first: all that is shown lasts then.
-    pub(crate) fn keep(&mut self, p: u64, words: &[u64])
-        requires { length words.now ≡ 512 }
-        ensures { Keeping self.old (record { page = p; words = words.now }) self.new }
-    {
-        let room = self.room();
-        if room == 0 {
-            return;
+// Which of what may be left of page p is taken: 0 is what it shows, and its oldest entry is 1.
+fn pick(choice: u64, entries: &[Entry], p: u64) -> usize
+    ensures { result ≡ picked choice entries.now p }
+{
+    (mix(choice, p) % (count_of(entries, p) as u64 + 1)) as usize
+}
+
+// Makes of each page what the choice leaves of it. Only pages with entries can change.
+fn leave(shown: &mut [u64], entries: &[Entry], choice: u64)
+    ensures { (p : ℕ) → p < pages_in shown.old → page_at shown.new p ≡ chosen choice shown.old entries.now p }
+{
+    for (i, entry) in entries.iter().enumerate() {
+        let p = entry.page as usize;
+        let place = count_of(&entries[..i], entry.page) + 1;
+        if p < pages_in(shown) && place == pick(choice, entries, entry.page) {
+            put_page(shown, p, &entry.words);
         }
-        let n = self.entries();
-        let place = if n < room { n } else { 0 };
-        self.saved_of[place] = p;
-        copy_in(self.saved, place, words);
-        self.held = place + 1;
+    }
+}
+
+impl MemDisk<'_> {
+    // A full table is emptied first: all that is shown lasts then. Where there is no room at all nothing is kept.
+    pub(crate) fn keep(&mut self, entry: Entry)
+        ensures { Keeping self.old entry self.new }
+    {
+        if self.saved.is_full() {
+            self.saved.clear();
+        }
+        let _ = self.saved.try_push(entry);
     }
 
-    // Only what is shown is left then.
-    pub(crate) fn forget(&mut self)
-        ensures { Forgetting self.old self.new }
+    // What page p shows.
+    pub(crate) fn look(&self, p: u64) -> &[u64]
+        requires { p < pages_in self.now.shown.now }
+        ensures words { result.now ≡ page_at self.now.shown.now p }
+        ensures long { length result.now ≡ page_words }
     {
-        self.held = 0;
-    }
-
-    // Copies out what page p shows.
-    pub(crate) fn look(&self, p: u64, into: &mut [u64])
-        requires { (p < pages_in self.now.shown.now) × (length into.old ≡ 512) }
-        ensures { into.new ≡ page_at self.now.shown.now p }
-    {
-        copy_out(self.shown, p as usize, into);
+        page(self.shown, p as usize)
     }
 
     // Before a write to page p: what it shows now may still be left of it.
@@ -57,72 +86,14 @@ impl<'a> MemDisk<'a> {
         requires { p < pages_in self.old.shown.now }
         ensures { Keeping self.old (record { page = p; words = page_at self.old.shown.now p }) self.new }
     {
-        let mut page = [0; WORDS];
-        self.look(p, &mut page);
-        self.keep(p, &page);
+        let entry = Entry::of(p, self.look(p));
+        self.keep(entry);
     }
 
-    // How many of the first n entries are of page p.
-    fn entries_of(&self, n: usize, p: u64) -> usize
-        requires { n ≤ room_of self.now }
-        ensures few { result ≤ n }
-        ensures count { result ≡ length (entries_of p (before self.now n)) }
-    {
-        let mut count = 0;
-        for i in 0..n {
-            if self.saved_of[i] == p {
-                count += 1;
-            }
-        }
-        count
-    }
-
-    // Which of what may be left of page p is taken: 0 is what it shows, and its oldest entry is 1.
-    fn pick(&self, p: u64) -> usize
-        ensures { result ≡ picked self.now.choice (table_in self.now) p }
-    {
-        let count = self.entries_of(self.entries(), p);
-        (mix(self.choice, p) % (count as u64 + 1)) as usize
-    }
-
-    fn wins(&self, i: usize) -> bool
-        requires { i < room_of self.now }
-        ensures { result ≡ wins self.now.choice (pages_in self.now.shown.now) (table_in self.now) (before self.now i) (entry_in self.now i).page }
-    {
-        let p = self.saved_of[i];
-        if p as usize >= pages_in(self.shown) {
-            return false;
-        }
-        self.entries_of(i, p) + 1 == self.pick(p)
-    }
-
-    // Copies out what entry i holds.
-    fn recall(&self, i: usize, into: &mut [u64])
-        requires { (i < room_of self.now) × (length into.old ≡ 512) }
-        ensures { into.new ≡ (entry_in self.now i).words }
-    {
-        copy_out(self.saved, i, into);
-    }
-
-    // Shows entry i again, if the choice falls on it.
-    fn offer(&mut self, i: usize)
-        requires { i < room_of self.old }
-        ensures { Offering self.old i self.new }
-    {
-        if self.wins(i) {
-            let mut page = [0; WORDS];
-            self.recall(i, &mut page);
-            let p = self.saved_of[i];
-            copy_in(self.shown, p as usize, &page);
-        }
-    }
-
-    // Makes of each page what the cut leaves of it. Only pages with entries can change.
+    // What a cut leaves, by the choice.
     pub(crate) fn choose(&mut self)
         ensures { Choosing (table_in self.old) self.old self.new }
     {
-        for i in 0..self.entries() {
-            self.offer(i);
-        }
+        leave(self.shown, self.saved.items(), self.choice);
     }
 }

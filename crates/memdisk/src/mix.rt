@@ -4,6 +4,7 @@ ghost use Rattle.memdisk.specs.Mixing.{stirred, mix_of};
 
 const GOLDEN: u64 = 0x9e3779b97f4a7c15;
 
+#[tactic(auto, unfolding(crate::specs::Mixing::stirred))]
 fn stir(z: u64, k: u32, factor: u64) -> u64
     requires { k < 64 }
     ensures { result ≡ stirred z k factor }
@@ -12,6 +13,7 @@ fn stir(z: u64, k: u32, factor: u64) -> u64
 }
 
 // Splitmix64, from a state made of both.
+#[tactic(auto, unfolding(crate::specs::Mixing::mix_of, crate::specs::Mixing::splitmix))]
 pub fn mix(choice: u64, n: u64) -> u64
     ensures { result ≡ mix_of choice n }
 {
@@ -24,7 +26,7 @@ pub fn mix(choice: u64, n: u64) -> u64
 pub fn scramble(room: &mut [u64], choice: u64)
     ensures { (i : ℕ) → i < length room.new → slice_index room.new i ≡ mix_of choice i }
 {
-    for i in 0..room.len() {
-        room[i] = mix(choice, i as u64);
+    for (i, word) in room.iter_mut().enumerate() {
+        *word = mix(choice, i as u64);
     }
 }

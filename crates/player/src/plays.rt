@@ -14,6 +14,7 @@ use crate::sink::Sink;
 use crate::stage::Stage;
 use clerk::Clerk;
 use deals::{Answer, Gone, Op, Power};
+use memdisk::NoRoom;
 use script::{Command, Output, ParseError};
 
 // How many turns a clerk is waited for.
@@ -28,6 +29,12 @@ pub struct Refused;
 
 impl From<ParseError> for Refused {
     fn from(_: ParseError) -> Refused {
+        Refused
+    }
+}
+
+impl From<NoRoom> for Refused {
+    fn from(_: NoRoom) -> Refused {
         Refused
     }
 }
