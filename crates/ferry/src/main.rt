@@ -2,6 +2,7 @@
 #![tactic(auto)]
 
 use deals::Power;
+use lines::tables::ROOM_WORDS;
 use memdisk::{Due, Entry, MemDisk};
 use pages::PAGE_WORDS;
 use player::{Cuts, Player, Sink, Stage};
@@ -11,9 +12,6 @@ use std::io::Write;
 
 // Words of the disk, which has 1,024 pages.
 const DISK: usize = 1_024 * PAGE_WORDS;
-
-// Words of the room, which has two megabytes.
-const ROOM: usize = 262_144;
 
 // How many old contents of pages the disk keeps.
 const SAVED: usize = 240;
@@ -88,7 +86,7 @@ fn main(rt: HostRuntime) -> io::Result<()> {
     let mut shown = [0u64; DISK];
     let mut saved = [Entry::BLANK; SAVED];
     let mut cuts = [Due::BLANK; CUTS];
-    let mut room = [0u64; ROOM];
+    let mut room = [0u64; ROOM_WORDS];
     let mut stage = Stage {
         disk: MemDisk::new(
             shown.as_mut_slice(),

@@ -41,6 +41,7 @@ impl<D: Power, S: Sink> Stage<'_, D, S> {
     pub fn next_life(&mut self, past: u64) -> Option<Life>
         ensures { IfSome result (λ life. (past < life.number) × (life.turns ≡ 0)) }
     {
+        // It counts lives and reads no list; each opening changes the stage.
         for before in past..LAST_LIFE {
             match self.open_office() {
                 Ok(office) => {
@@ -71,6 +72,7 @@ impl Life {
         n <= LAST_TURN - self.turns
     }
 
+    // Who asks and what stay apart, as the office takes them.
     pub fn ask(&mut self, room: &mut [u64], who: Clerk, op: Op)
         ensures number { self.new.number ≡ self.old.number }
         ensures turns { self.new.turns ≡ self.old.turns }

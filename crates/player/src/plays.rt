@@ -25,7 +25,7 @@ const READINGS: u64 = 1_000;
 
 // A command that isn't played. Nothing has changed then.
 #[derive(Clone, Copy, Debug, PartialEq, Eq)]
-pub struct Refused;
+struct Refused;
 
 impl From<ParseError> for Refused {
     fn from(_: ParseError) -> Refused {

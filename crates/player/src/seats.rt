@@ -6,6 +6,7 @@ use clerk::{CLERKS, Clerk};
 use deals::{Answer, Op};
 use std::marker::Model;
 
+// The three states of a clerk. To be free is one of them and no missing value.
 #[derive(Clone, Copy, Debug, PartialEq, Eq)]
 pub enum Seat {
     // no deal, and nothing under way

@@ -51,10 +51,7 @@ impl LineBuffer {
     pub fn text(&self) -> Option<&[u8]>
         ensures { MatchOption result (self.now ≡ None) (λ t. self.now ≡ Some t.now) }
     {
-        match &self.text {
-            Some(text) => Some(text.as_slice()),
-            None => None,
-        }
+        self.text.as_ref().map(|text| text.as_slice())
     }
 
     pub fn clear(&mut self)

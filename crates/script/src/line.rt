@@ -49,6 +49,7 @@ pub enum Verb {
     Book,
 }
 
+// How many they are belongs to the type and isn't a case of none: each verb takes exactly so many.
 #[derive(Clone, Copy, Debug, PartialEq, Eq)]
 pub enum Numbers {
     Zero,
