@@ -28,11 +28,11 @@ abbrev pub lives_of : Option Life → ℕ
 lives_of o = option_map_or (λ life. life.number) o 0
 
 -- the same life, or none before and none after
-abbrev pub SameLife : Option Life → Option Life → Type 0
-SameLife o p = option_map (λ life. life.number) p ≡ option_map (λ life. life.number) o
+abbrev pub Same : Player → Player → Type 0
+Same p q = option_map (λ life. life.number) q.life ≡ option_map (λ life. life.number) p.life
 
 -- nothing of the life but its turns changes, from t to u; or it ended
 abbrev pub Waits : Result (Option Answer) Gone → Player → Player → Type 0
-Waits (Ok (Some a)) p q = SameLife p.life q.life × (turns_of p.life < turns_of q.life) × (turns_of q.life ≤ turns_of p.life + 64)
-Waits (Ok None) p q = SameLife p.life q.life × (turns_of q.life ≡ turns_of p.life + 64)
+Waits (Ok (Some a)) p q = Same p q × (turns_of p.life < turns_of q.life) × (turns_of q.life ≤ turns_of p.life + 64)
+Waits (Ok None) p q = Same p q × (turns_of q.life ≡ turns_of p.life + 64)
 Waits (Err e) p q = q.seats ≡ nobody

@@ -5,7 +5,7 @@ ghost use Rattle.script.specs.declared.Output.TheVariants.{Busy, BadLine};
 ghost use Rattle.script.specs.Text.{Fits, text_of};
 ghost use Rattle.player.specs.declared.seats.Seat.TheVariants.{Free};
 ghost use Rattle.player.specs.Seating.{is_asked, asked, nobody};
-ghost use Rattle.player.specs.Turning.{HasTurns, SameLife, turns_of, lives_of, after_turn, Waits};
+ghost use Rattle.player.specs.Turning.{HasTurns, Same, turns_of, lives_of, after_turn, Waits};
 
 use crate::lives::Life;
 use crate::power::Cuts;
@@ -70,7 +70,7 @@ impl Player {
         requires { IsSome self.old.life }
         ensures seats { self.new.seats ≡ asked who op self.old.seats }
         ensures turns { turns_of self.new.life ≡ turns_of self.old.life }
-        ensures life { SameLife self.old.life self.new.life }
+        ensures life { Same self.old self.new }
     {
         self.seats.ask(who, op);
         self.life.as_mut().unwrap().ask(room, who, op);
@@ -83,7 +83,7 @@ impl Player {
         requires { HasTurns 1 self.old.life }
         ensures seats { self.new.seats ≡ after_turn result self.old.seats }
         ensures turns { turns_of self.new.life ≡ turns_of self.old.life + 1 }
-        ensures life { SameLife self.old.life self.new.life }
+        ensures life { Same self.old self.new }
         ensures gone { IsErr result → (D.disk stage.new.disk).on ≡ false }
     {
         let told = self.life.as_mut().unwrap().turn(stage)?;
