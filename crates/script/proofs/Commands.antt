@@ -28,34 +28,16 @@ order_of op.Commit = order Commit Zero
 order_of op.Undo = order Undo Zero
 
 pub op_text_lem : (o : Op) → op_text o ≡ order_text (order_of o)
-op_text_lem (op.Get k) = refl
-op_text_lem (op.Put k x) = refl
-op_text_lem (op.Drop k) = refl
-op_text_lem (op.Next k) = refl
 op_text_lem op.Mark = refl
-op_text_lem (op.Back j) = refl
-op_text_lem op.Commit = refl
-op_text_lem op.Undo = refl
+op_text_lem o = refl
 
 pub op_fits : (o : Op) → OpFits o → OrderFits (order_of o)
-op_fits (op.Get k) f = f
-op_fits (op.Put k x) f = f
-op_fits (op.Drop k) f = f
-op_fits (op.Next k) f = f
-op_fits op.Mark f = f
 op_fits (op.Back j) f = omega arith
-op_fits op.Commit f = f
-op_fits op.Undo f = f
+op_fits o f = f
 
 pub op_again : (o : Op) → OpFits o → op_of (order_of o).verb (order_of o).numbers ≡ Some o
-op_again (op.Get k) f = refl
-op_again (op.Put k x) f = refl
-op_again (op.Drop k) f = refl
-op_again (op.Next k) f = refl
-op_again op.Mark f = refl
 op_again (op.Back j) f = rw (lt-ltb j (2 ^ 32) f)
-op_again op.Commit f = refl
-op_again op.Undo f = refl
+op_again o f = refl
 
 -- an operation's order, with its numbers in range
 abbrev pub Means : Op → Order → Type 0
@@ -65,47 +47,25 @@ at_op : (o q : Op) → OpFits o → Some o ≡ Some q → Means q (order_of o)
 at_op o q f e = let P : Op → Type 0 = λ x. Means x (order_of o) in subst P (same_some o q e) (refl, f)
 
 plain_means : (v : Verb) (o : Op) → plain_op v ≡ Some o → Means o (order v Zero)
-plain_means Get o e = not_some o e
-plain_means Put o e = not_some o e
-plain_means Drop o e = not_some o e
-plain_means Next o e = not_some o e
 plain_means Mark o e = at_op op.Mark o tt e
-plain_means Back o e = not_some o e
 plain_means Commit o e = at_op op.Commit o tt e
 plain_means Undo o e = at_op op.Undo o tt e
-plain_means Turn o e = not_some o e
-plain_means Cut o e = not_some o e
-plain_means Book o e = not_some o e
+plain_means v o e = not_some o e
 
 key_means : (v : Verb) (k : ℕ) (o : Op) → k < 2 ^ 64 → key_op v k ≡ Some o → Means o (order v (One k))
 key_means Get k o f e = at_op (op.Get k) o f e
-key_means Put k o f e = not_some o e
 key_means Drop k o f e = at_op (op.Drop k) o f e
 key_means Next k o f e = at_op (op.Next k) o f e
-key_means Mark k o f e = not_some o e
 key_means Back k o f e =
     elim (cases_lt k (2 ^ 32)) [
       | inl lt ↦ at_op (op.Back k) o lt (sym (ap (λ b. cond b (Some (op.Back k)) None) (lt-ltb k (2 ^ 32) lt)) ∙ e)
       | inr ge ↦ not_some o (sym (ap (λ b. cond b (Some (op.Back k)) None) (le-ltb k (2 ^ 32) ge)) ∙ e)
     ]
-key_means Commit k o f e = not_some o e
-key_means Undo k o f e = not_some o e
-key_means Turn k o f e = not_some o e
-key_means Cut k o f e = not_some o e
-key_means Book k o f e = not_some o e
+key_means v k o f e = not_some o e
 
 word_means : (v : Verb) (k x : ℕ) (o : Op) → (k < 2 ^ 64) × (x < 2 ^ 64) → word_op v k x ≡ Some o → Means o (order v (Two k x))
-word_means Get k x o f e = not_some o e
 word_means Put k x o f e = at_op (op.Put k x) o f e
-word_means Drop k x o f e = not_some o e
-word_means Next k x o f e = not_some o e
-word_means Mark k x o f e = not_some o e
-word_means Back k x o f e = not_some o e
-word_means Commit k x o f e = not_some o e
-word_means Undo k x o f e = not_some o e
-word_means Turn k x o f e = not_some o e
-word_means Cut k x o f e = not_some o e
-word_means Book k x o f e = not_some o e
+word_means v k x o f e = not_some o e
 
 pub op_means : (v : Verb) (n : Numbers) (o : Op) → OrderFits (order v n) → op_of v n ≡ Some o → Means o (order v n)
 op_means v Zero o f e = plain_means v o e
@@ -126,47 +86,20 @@ own_at : (c d : Command) (r : Order) → OwnMeans c r → Some c ≡ Some d → 
 own_at c d r m e = let P : Command → Type 0 = λ x. OwnMeans x r in subst P (same_some c d e) m
 
 book_means : (v : Verb) (c : Command) → book_command v ≡ Some c → OwnMeans c (order v Zero)
-book_means Get c e = not_some c e
-book_means Put c e = not_some c e
-book_means Drop c e = not_some c e
-book_means Next c e = not_some c e
-book_means Mark c e = not_some c e
-book_means Back c e = not_some c e
-book_means Commit c e = not_some c e
-book_means Undo c e = not_some c e
-book_means Turn c e = not_some c e
-book_means Cut c e = not_some c e
 book_means Book c e = own_at command.Book c (order Book Zero) (refl, tt) e
+book_means v c e = not_some c e
 
 turn_means : (v : Verb) (n : ℕ) (c : Command) → turn_command v n ≡ Some c → OwnMeans c (order v (One n))
-turn_means Get n c e = not_some c e
-turn_means Put n c e = not_some c e
-turn_means Drop n c e = not_some c e
-turn_means Next n c e = not_some c e
-turn_means Mark n c e = not_some c e
-turn_means Back n c e = not_some c e
-turn_means Commit n c e = not_some c e
-turn_means Undo n c e = not_some c e
 turn_means Turn n c e =
     elim (cases_lt n 16777216) [
       | inl lt ↦ own_at (command.Turn n) c (order Turn (One n)) (refl, lt) (sym (ap (λ b. cond b (Some (command.Turn n)) None) (lt-ltb n 16777216 lt)) ∙ e)
       | inr ge ↦ not_some c (sym (ap (λ b. cond b (Some (command.Turn n)) None) (le-ltb n 16777216 ge)) ∙ e)
     ]
-turn_means Cut n c e = not_some c e
-turn_means Book n c e = not_some c e
+turn_means v n c e = not_some c e
 
 cut_means : (v : Verb) (n s : ℕ) (c : Command) → (n < 2 ^ 64) × (s < 2 ^ 64) → cut_command v n s ≡ Some c → OwnMeans c (order v (Two n s))
-cut_means Get n s c f e = not_some c e
-cut_means Put n s c f e = not_some c e
-cut_means Drop n s c f e = not_some c e
-cut_means Next n s c f e = not_some c e
-cut_means Mark n s c f e = not_some c e
-cut_means Back n s c f e = not_some c e
-cut_means Commit n s c f e = not_some c e
-cut_means Undo n s c f e = not_some c e
-cut_means Turn n s c f e = not_some c e
 cut_means Cut n s c f e = own_at (command.Cut n s) c (order Cut (Two n s)) (refl, f) e
-cut_means Book n s c f e = not_some c e
+cut_means v n s c f e = not_some c e
 
 pub own_means : (v : Verb) (n : Numbers) (c : Command) → OrderFits (order v n) → own_command v n ≡ Some c → OwnMeans c (order v n)
 own_means v Zero c f e = book_means v c e

@@ -5,7 +5,7 @@ use Rattle.std.proofs.lemmas.Bool.{both_ways}
 use Rattle.script.proofs.Figures.{digits_only}
 use Rattle.script.proofs.Words.{Spaceless}
 use Rattle.script.specs.declared.line.Verb.{Verb}
-use Rattle.script.specs.declared.line.Verb.TheVariants.{Get, Put, Drop, Next, Mark, Back, Commit, Undo, Turn, Cut, Book}
+use Rattle.script.specs.declared.line.Verb.TheVariants.{Get}
 use Rattle.script.specs.Order.{verb_text}
 
 -- all letters, which come after the digits
@@ -24,16 +24,7 @@ lettered_at (x ∷ xs) e (suc k) lt = lettered_at xs (both_true (ltb 57 x) (lett
 
 lettered_verb : (v : Verb) → lettered (verb_text v) ≡ true
 lettered_verb Get = refl
-lettered_verb Put = refl
-lettered_verb Drop = refl
-lettered_verb Next = refl
-lettered_verb Mark = refl
-lettered_verb Back = refl
-lettered_verb Commit = refl
-lettered_verb Undo = refl
-lettered_verb Turn = refl
-lettered_verb Cut = refl
-lettered_verb Book = refl
+lettered_verb v = refl
 
 pub spaceless_verb : (v : Verb) → Spaceless (verb_text v)
 spaceless_verb v k lt e = let after = lettered_at (verb_text v) (lettered_verb v) k lt in omega arith

@@ -46,40 +46,18 @@ abbrev pub plain_op : Verb → Option Op
 plain_op Mark = Some op.Mark
 plain_op Commit = Some op.Commit
 plain_op Undo = Some op.Undo
-plain_op Get = None
-plain_op Put = None
-plain_op Drop = None
-plain_op Next = None
-plain_op Back = None
-plain_op Turn = None
-plain_op Cut = None
-plain_op Book = None
+plain_op v = None
 
 abbrev pub key_op : Verb → ℕ → Option Op
 key_op Get k = Some (op.Get k)
 key_op Drop k = Some (op.Drop k)
 key_op Next k = Some (op.Next k)
 key_op Back k = cond (nat_lt k (2 ^ 32)) (Some (op.Back k)) None
-key_op Put k = None
-key_op Mark k = None
-key_op Commit k = None
-key_op Undo k = None
-key_op Turn k = None
-key_op Cut k = None
-key_op Book k = None
+key_op v k = None
 
 abbrev pub word_op : Verb → ℕ → ℕ → Option Op
 word_op Put k x = Some (op.Put k x)
-word_op Get k x = None
-word_op Drop k x = None
-word_op Next k x = None
-word_op Back k x = None
-word_op Mark k x = None
-word_op Commit k x = None
-word_op Undo k x = None
-word_op Turn k x = None
-word_op Cut k x = None
-word_op Book k x = None
+word_op v k x = None
 
 abbrev pub op_of : Verb → Numbers → Option Op
 op_of v Zero = plain_op v
@@ -88,42 +66,15 @@ op_of v (Two k x) = word_op v k x
 
 abbrev pub book_command : Verb → Option Command
 book_command Book = Some command.Book
-book_command Get = None
-book_command Put = None
-book_command Drop = None
-book_command Next = None
-book_command Mark = None
-book_command Back = None
-book_command Commit = None
-book_command Undo = None
-book_command Turn = None
-book_command Cut = None
+book_command v = None
 
 abbrev pub turn_command : Verb → ℕ → Option Command
 turn_command Turn n = cond (nat_lt n 16777216) (Some (command.Turn n)) None
-turn_command Get n = None
-turn_command Put n = None
-turn_command Drop n = None
-turn_command Next n = None
-turn_command Mark n = None
-turn_command Back n = None
-turn_command Commit n = None
-turn_command Undo n = None
-turn_command Cut n = None
-turn_command Book n = None
+turn_command v n = None
 
 abbrev pub cut_command : Verb → ℕ → ℕ → Option Command
 cut_command Cut n s = Some (command.Cut n s)
-cut_command Get n s = None
-cut_command Put n s = None
-cut_command Drop n s = None
-cut_command Next n s = None
-cut_command Mark n s = None
-cut_command Back n s = None
-cut_command Commit n s = None
-cut_command Undo n s = None
-cut_command Turn n s = None
-cut_command Book n s = None
+cut_command v n s = None
 
 abbrev pub own_command : Verb → Numbers → Option Command
 own_command v Zero = book_command v
