@@ -20,7 +20,7 @@ impl From<Outage> for Gone {
     }
 }
 
-impl MemDisk<'_> {
+impl<'a> MemDisk<'a> {
     // How many cuts are set.
     pub fn pending(&self) -> usize
         ensures { result ≡ length (dues_in self.now) }

@@ -61,7 +61,7 @@ pub fn leave(shown: &mut [u64], entries: &[Entry], choice: u64)
     }
 }
 
-impl MemDisk<'_> {
+impl<'a> MemDisk<'a> {
     // A full table is emptied first: all that is shown lasts then. Where there is no room at all nothing is kept.
     pub(crate) fn keep(&mut self, entry: Entry)
         ensures { Keeping self.old entry self.new }

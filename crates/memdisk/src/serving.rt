@@ -11,7 +11,7 @@ use crate::mix::scramble;
 use deals::{Gone, Pages, Power};
 use pages::{pages_in, put_page};
 
-impl Pages for MemDisk<'_> {
+impl<'a> Pages for MemDisk<'a> {
     ghost disk = { disk_of };
 
     fn pages(&self) -> u64 {
@@ -65,7 +65,7 @@ impl Pages for MemDisk<'_> {
     }
 }
 
-impl Power for MemDisk<'_> {
+impl<'a> Power for MemDisk<'a> {
     fn allow(&mut self, asks: u64) {
         self.left = asks;
     }
