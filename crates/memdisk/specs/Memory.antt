@@ -1,6 +1,6 @@
 -- What the words of a disk in memory mean.
 -- Assumes nothing.
-use Rattle.std.specs.Prelude.{◌≡◌, ℕ, suc, ◌-◌, ◌%◌, ◌<◌, Bool, true, false, cond, List, [], ◌∷◌, ◌++◌, length, replicate, Some, None, Option, Ok, Err, Result, is_ok, ◌==◌, nat_lt, slice_index_or}
+use Rattle.std.specs.Prelude.{◌≡◌, ℕ, suc, ◌-◌, ◌%◌, ◌<◌, Bool, true, false, cond, List, [], ◌∷◌, ◌++◌, length, replicate, Some, None, Option, Ok, Err, Result, is_ok, is_none, unwrap_or, ◌==◌, nat_lt, slice_index_or}
 use Rattle.deals.specs.Disk.{Disk, Within}
 use Rattle.pages.specs.Pages.{page_at, pages_in}
 use Rattle.memdisk.specs.declared.MemDisk.{MemDisk}
@@ -21,31 +21,35 @@ table_in m = m.saved.items
 
 -- how many cuts can be set, and those that are
 abbrev pub cut_room : MemDisk → ℕ
-cut_room m = m.cuts.room
+cut_room m = m.due.room
 
 abbrev pub dues_in : MemDisk → List Due
-dues_in m = m.cuts.items
+dues_in m = m.due.items
+
+-- whether the power is on, and the choice of the cut that put it out
+abbrev pub on_of : MemDisk → Bool
+on_of m = is_none m.cut
+
+abbrev pub choice_of : MemDisk → ℕ
+choice_of m = unwrap_or m.cut 0
 
 -- what a page shows, and then what it held before, the oldest first; a page that isn't there is nothing
 abbrev pub may_of : List ℕ → List Entry → ℕ → List (List ℕ)
 may_of ws es p = cond (nat_lt p (pages_in ws)) (page_at ws p ∷ entries_of p es) []
 
 abbrev pub disk_of : MemDisk → Disk
-disk_of m = record { pages = pages_in m.shown.now; shown = page_at m.shown.now; may = may_of m.shown.now (table_in m); on = m.on; left = m.left }
+disk_of m = record { pages = pages_in m.shown.now; shown = page_at m.shown.now; may = may_of m.shown.now (table_in m); on = on_of m; left = m.left }
 
 -- nothing of the pages and their entries changes
 pub record SamePages (m n : MemDisk) : Type 0 where
   pub shown : n.shown.now ≡ m.shown.now
-  pub table : table_in n ≡ table_in m
-  pub room : room_of n ≡ room_of m
+  pub saved : n.saved ≡ m.saved
 
 -- nothing of the power changes
 pub record SamePower (m n : MemDisk) : Type 0 where
-  pub on : n.on ≡ m.on
+  pub cut : n.cut ≡ m.cut
   pub left : n.left ≡ m.left
-  pub dues : dues_in n ≡ dues_in m
-  pub cuts : cut_room n ≡ cut_room m
-  pub choice : n.choice ≡ m.choice
+  pub due : n.due ≡ m.due
 
 -- AN ASKING. It is served where the power is on and no cut comes with it.
 abbrev pub Asked : Type 0
@@ -56,18 +60,14 @@ asked_of false o = Err Dark
 asked_of true None = Ok tt
 asked_of true (Some s) = Err Cut
 
-abbrev pub choice_or : ℕ → Option ℕ → ℕ
-choice_or s None = s
-choice_or s (Some t) = t
-
 pub record Counts (m : MemDisk) (served : Bool) (n : MemDisk) : Type 0 where
-  pub told : served ≡ is_ok (asked_of m.on (coming (dues_in m)))
-  pub on : n.on ≡ served
-  pub dues : dues_in n ≡ cond m.on (later (dues_in m)) (dues_in m)
-  pub choice : n.choice ≡ cond m.on (choice_or m.choice (coming (dues_in m))) m.choice
+  pub told : served ≡ is_ok (asked_of (on_of m) (coming (dues_in m)))
+  pub on : on_of n ≡ served
+  pub cut : n.cut ≡ cond (on_of m) (coming (dues_in m)) m.cut
+  pub dues : dues_in n ≡ cond (on_of m) (later (dues_in m)) (dues_in m)
 
 pub record Asking (m : MemDisk) (r : Asked) (n : MemDisk) : Type 0 where
-  pub told : r ≡ asked_of m.on (coming (dues_in m))
+  pub told : r ≡ asked_of (on_of m) (coming (dues_in m))
   pub counts : Counts m (is_ok r) n
   pub left : n.left ≡ m.left - 1
   pub pages : SamePages m n
@@ -85,23 +85,12 @@ picked s es p = mix_of s p % suc (length (entries_of p es))
 abbrev pub chosen : ℕ → List ℕ → List Entry → ℕ → List ℕ
 chosen s ws es p = slice_index_or (page_at ws p ∷ entries_of p es) (picked s es p) (page_at ws p)
 
--- nothing changes but what is shown
-pub record SameRest (m n : MemDisk) : Type 0 where
-  pub saved : n.saved ≡ m.saved
-  pub pages : length n.shown.now ≡ length m.shown.now
-  pub power : SamePower m n
-
--- of the older entries the choice has been made
-pub record Choosing (older : List Entry) (m n : MemDisk) : Type 0 where
-  pub each : (p : ℕ) → p < pages_in m.shown.now → page_at n.shown.now p ≡ slice_index_or (page_at m.shown.now p ∷ entries_of p older) (picked m.choice (table_in m) p) (page_at m.shown.now p)
-  pub rest : SameRest m n
-
 -- A DISK THAT IS NEW
 pub record Fresh (ws : List ℕ) (m : MemDisk) : Type 0 where
   pub pages : (disk_of m).pages ≡ pages_in ws
   pub zeros : (p : ℕ) → p < pages_in ws → (disk_of m).shown p ≡ replicate 512 0
   pub lasts : Within (disk_of m).may (λ p. replicate 512 0 ∷ [])
-  pub on : m.on ≡ true
+  pub on : on_of m ≡ true
   pub left : m.left ≡ 0
   pub dues : dues_in m ≡ []
 
@@ -114,6 +103,6 @@ unlit d = record { pages = d.pages; shown = d.shown; may = d.may; on = false; le
 
 -- THE POWER COMES BACK
 pub record Backs (m n : MemDisk) : Type 0 where
-  pub each : (p : ℕ) → p < (disk_of m).pages → (disk_of n).shown p ≡ chosen m.choice m.shown.now (table_in m) p
+  pub each : (p : ℕ) → p < (disk_of m).pages → (disk_of n).shown p ≡ chosen (choice_of m) m.shown.now (table_in m) p
   pub left : n.left ≡ m.left
   pub dues : dues_in n ≡ dues_in m

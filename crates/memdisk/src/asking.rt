@@ -20,12 +20,12 @@ impl From<Outage> for Gone {
     }
 }
 
-impl MemDisk<'_> {
+impl<'a> MemDisk<'a> {
     // How many cuts are set.
     pub fn pending(&self) -> usize
         ensures { result ≡ length (dues_in self.now) }
     {
-        self.cuts.len()
+        self.due.len()
     }
 
     // The power goes at the n-th asking from here on, and at 0 at once. Where no more cuts can be set nothing changes.
@@ -34,14 +34,13 @@ impl MemDisk<'_> {
         ensures dues { dues_in self.new ≡ with_cut (cut_room self.old) (record { asks = n; choice = choice }) (dues_in self.old) }
         ensures room { cut_room self.new ≡ cut_room self.old }
         ensures disk { disk_of self.new ≡ (if nat_eq n 0 then unlit (disk_of self.old) else disk_of self.old) }
-        ensures choice { self.new.choice ≡ (if nat_eq n 0 then choice else self.old.choice) }
+        ensures cut { self.new.cut ≡ (if nat_eq n 0 then Some choice else self.old.cut) }
     {
         if n == 0 {
-            self.on = false;
-            self.choice = choice;
+            self.cut = Some(choice);
             return Ok(());
         }
-        self.cuts.try_push(Due { asks: n, choice })
+        self.due.try_push(Due { asks: n, choice })
     }
 
     pub(crate) fn ask(&mut self) -> Result<(), Outage>
@@ -49,16 +48,13 @@ impl MemDisk<'_> {
         ensures { Asking self.old result self.new }
     {
         self.left -= 1;
-        if !self.on {
+        if self.cut.is_some() {
             return Err(Outage::Dark);
         }
-        match self.cuts.count_down() {
+        self.cut = self.due.count_down();
+        match self.cut {
             None => Ok(()),
-            Some(choice) => {
-                self.on = false;
-                self.choice = choice;
-                Err(Outage::Cut)
-            }
+            Some(_) => Err(Outage::Cut),
         }
     }
 }

@@ -23,7 +23,7 @@ impl Due {
     }
 }
 
-impl Lent<'_, Due> {
+impl<'a> Lent<'a, Due> {
     // One asking: a cut that comes with it is no longer set, and the others are one asking nearer. Gives the choice of
     // the last that came.
     pub fn count_down(&mut self) -> Option<u64>

@@ -2,7 +2,7 @@
 ghost use Rattle.std.specs.Prelude.{◌≡◌, ℕ, ◌+◌, ◌^◌, ◌<◌, length};
 ghost use Rattle.pages.specs.Pages.{page_at, page_words, pages_in};
 ghost use Rattle.memdisk.specs.Entries.{entries_of};
-ghost use Rattle.memdisk.specs.Memory.{table_in, picked, chosen, Keeping, Choosing};
+ghost use Rattle.memdisk.specs.Memory.{picked, chosen, Keeping};
 
 use crate::MemDisk;
 use crate::mix::mix;
@@ -49,7 +49,7 @@ fn pick(choice: u64, entries: &[Entry], p: u64) -> usize
 }
 
 // Makes of each page what the choice leaves of it. Only pages with entries can change.
-fn leave(shown: &mut [u64], entries: &[Entry], choice: u64)
+pub fn leave(shown: &mut [u64], entries: &[Entry], choice: u64)
     ensures { (p : ℕ) → p < pages_in shown.old → page_at shown.new p ≡ chosen choice shown.old entries.now p }
 {
     for (i, entry) in entries.iter().enumerate() {
@@ -61,7 +61,7 @@ fn leave(shown: &mut [u64], entries: &[Entry], choice: u64)
     }
 }
 
-impl MemDisk<'_> {
+impl<'a> MemDisk<'a> {
     // A full table is emptied first: all that is shown lasts then. Where there is no room at all nothing is kept.
     pub(crate) fn keep(&mut self, entry: Entry)
         ensures { Keeping self.old entry self.new }
@@ -88,12 +88,5 @@ impl MemDisk<'_> {
     {
         let entry = Entry::of(p, self.look(p));
         self.keep(entry);
-    }
-
-    // What a cut leaves, by the choice.
-    pub(crate) fn choose(&mut self)
-        ensures { Choosing (table_in self.old) self.old self.new }
-    {
-        leave(self.shown, self.saved.items(), self.choice);
     }
 }

@@ -21,14 +21,14 @@ pub use lent::NoRoom;
 
 // What it holds is lent. `shown` has the pages as they are read, one behind the other. `saved` is a table of what pages
 // held before a write since the last sync, the oldest first: what a cut may leave of a page is what it shows, or one of
-// its entries. `cuts` has the cuts that are set.
+// its entries. `due` has the cuts that are set, and `cut` the choice of the one that came: there is none while the power
+// is on.
 #[derive(Drop)]
 pub struct MemDisk<'a> {
     shown: &'a mut [u64],
     saved: Lent<'a, Entry>,
-    cuts: Lent<'a, Due>,
-    choice: u64,
-    on: bool,
+    due: Lent<'a, Due>,
+    cut: Option<u64>,
     left: u64,
 }
 
@@ -44,9 +44,8 @@ impl<'a> MemDisk<'a> {
         MemDisk {
             shown,
             saved: Lent::new(saved),
-            cuts: Lent::new(cuts),
-            choice: 0,
-            on: true,
+            due: Lent::new(cuts),
+            cut: None,
             left: 0,
         }
     }
@@ -54,6 +53,6 @@ impl<'a> MemDisk<'a> {
     pub fn is_on(&self) -> bool
         ensures { result ≡ (disk_of self.now).on }
     {
-        self.on
+        self.cut.is_none()
     }
 }

@@ -2,16 +2,16 @@
 ghost use Rattle.std.specs.Prelude.{◌≡◌, ℕ, ◌<◌, false, length, is_ok, slice_index};
 ghost use Rattle.deals.specs.Disk.{MayAsk, Reading, Writing, Syncing, Back};
 ghost use Rattle.memdisk.specs.Mixing.{mix_of};
-ghost use Rattle.memdisk.specs.Memory.{disk_of, Counts, Backs};
+ghost use Rattle.memdisk.specs.Memory.{choice_of, disk_of, Counts, Backs};
 
 use crate::MemDisk;
 use crate::asking::Outage;
-use crate::keeping::Entry;
+use crate::keeping::{Entry, leave};
 use crate::mix::scramble;
 use deals::{Gone, Pages, Power};
 use pages::{pages_in, put_page};
 
-impl Pages for MemDisk<'_> {
+impl<'a> Pages for MemDisk<'a> {
     ghost disk = { disk_of };
 
     fn pages(&self) -> u64 {
@@ -65,7 +65,7 @@ impl Pages for MemDisk<'_> {
     }
 }
 
-impl Power for MemDisk<'_> {
+impl<'a> Power for MemDisk<'a> {
     fn allow(&mut self, asks: u64) {
         self.left = asks;
     }
@@ -76,11 +76,11 @@ impl Power for MemDisk<'_> {
         requires { (disk_of self.old).on ≡ false }
         ensures back { Back (disk_of self.old) (disk_of self.new) }
         ensures chosen { Backs self.old self.new }
-        ensures room { (i : ℕ) → i < length room.new → slice_index room.new i ≡ mix_of self.old.choice i }
+        ensures room { (i : ℕ) → i < length room.new → slice_index room.new i ≡ mix_of (choice_of self.old) i }
     {
-        self.choose();
+        let choice = self.cut.take().unwrap();
+        leave(self.shown, self.saved.items(), choice);
         self.saved.clear();
-        self.on = true;
-        scramble(room, self.choice);
+        scramble(room, choice);
     }
 }

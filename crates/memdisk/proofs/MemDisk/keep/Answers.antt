@@ -13,13 +13,13 @@ returns c =
           rw w.self-is (record {
             table = ap (λ b. b.items) p ∙ kept_full m.saved.room e m.saved.items (is.full.0 w.if-is_full.true);
             shown = refl;
-            power = record { on = refl; left = refl; dues = refl; cuts = refl; choice = refl };
+            power = record { cut = refl; left = refl; due = refl };
           })
       | else-is_full w ↦
           let p = rw w.self-is at push in
           rw w.self-is (record {
             table = ap (λ b. b.items) p ∙ kept_more m.saved.room e m.saved.items (λ f. let z = is.full.1 f in cc) is.within;
             shown = refl;
-            power = record { on = refl; left = refl; dues = refl; cuts = refl; choice = refl };
+            power = record { cut = refl; left = refl; due = refl };
           })
     ]
