@@ -24,9 +24,6 @@ place_high r i h = rw (le-ltb (r.start + i) r.cap h)
 place_cases : (r : Ring) (i : ℕ) → ((r.start + i < r.cap) × (place r i ≡ r.start + i)) ⊎ ((r.cap ≤ r.start + i) × (place r i ≡ r.start + i - r.cap))
 place_cases r i = elim (cases_lt (r.start + i) r.cap) [ inl h ↦ inl (h, place_low r i h) | inr h ↦ inr (h, place_high r i h) ]
 
-pub place_within : (r : Ring) (i : ℕ) → r.start < r.cap → i < r.cap → place r i < r.cap
-place_within r i s h = elim (place_cases r i) [ inl p ↦ omega arith | inr p ↦ omega arith ]
-
 place_apart : (r : Ring) (i j : ℕ) → r.start < r.cap → i < r.cap → j < r.cap → (j ≡ i → ⊥) → place r j ≡ place r i → ⊥
 place_apart r i j s h g d e =
     elim (place_cases r i) [
