@@ -1,22 +1,16 @@
 -- Entries that go from one node to the other.
-use Rattle.std.proofs.Common.{◌≡◌, ℕ, zero, suc, ◌+◌, ◌<◌, ◌≤◌, List, [], ◌∷◌, ◌++◌, length, get_or, take, sym, refl, ap, ◌∙◌, ap₂, append_assoc, arith}
+use Rattle.std.proofs.Common.{◌≡◌, ℕ, zero, suc, ◌+◌, ◌<◌, ◌≤◌, List, [], ◌∷◌, ◌++◌, length, get_or, sym, refl, ap, ◌∙◌, append_assoc, arith}
 use Rattle.std.specs.List.{insert, remove}
-use Rattle.std.proofs.lemmas.List.{take_more, take_all, length-append, length-take}
-use Rattle.node.specs.Node.{count_of, level_of, pairs_of, IsNode, Shared, Beside}
-use Rattle.node.proofs.Places.{pairs_length, pairs_at_lem, key_at_lem}
-use Rattle.node.proofs.Entries.{removed_length}
+use Rattle.std.proofs.lemmas.List.{length-append}
+use Rattle.std.proofs.lemmas.List.Edits.{length-insert, length-remove}
+use Rattle.node.specs.Node.{Contents, contents_of, Page, Shared, Shares, Beside, Neighbours, key_at}
+use Rattle.node.proofs.Words.{pairs_length}
 
-pub inserted_end : (xs : List (ℕ × ℕ)) (n : ℕ) (e : ℕ × ℕ) → n ≡ length xs → insert xs n e ≡ xs ++ (e ∷ [])
+inserted_end : (xs : List (ℕ × ℕ)) (n : ℕ) (e : ℕ × ℕ) → n ≡ length xs → insert xs n e ≡ xs ++ (e ∷ [])
 inserted_end [] zero e h = refl
 inserted_end [] (suc n) e h = absurd (omega arith)
 inserted_end (x ∷ xs) zero e h = absurd (omega arith)
 inserted_end (x ∷ xs) (suc n) e h = ap (λ r. x ∷ r) (inserted_end xs n e (omega arith))
-
--- a turn of the loop: a has xs and j of ys
-pub append_more : (xs ys as' : List (ℕ × ℕ)) (n j : ℕ) (e : ℕ × ℕ) → length xs ≡ n → j < length ys → as' ≡ insert (xs ++ take j ys) (n + j) e → e ≡ get_or ys j (0, 0) → as' ≡ xs ++ take (j + 1) ys
-append_more xs ys as' n j e l h p z =
-    p ∙ inserted_end (xs ++ take j ys) (n + j) e (omega (arith, length-append xs (take j ys), length-take j ys)) ∙ append_assoc xs (take j ys) (e ∷ [])
-    ∙ ap (λ r. xs ++ (take j ys ++ (r ∷ []))) z ∙ ap (λ (r : List (ℕ × ℕ)). xs ++ r) (sym (take_more ys j (0, 0) h))
 
 first_off : (xs ys : List (ℕ × ℕ)) → 0 < length ys → (xs ++ (get_or ys 0 (0, 0) ∷ [])) ++ remove ys 0 ≡ xs ++ ys
 first_off xs [] h = absurd (omega arith)
@@ -28,52 +22,48 @@ last_off zero (x ∷ []) ys h = refl
 last_off zero (x ∷ (y ∷ xs)) ys h = absurd (omega arith)
 last_off (suc n) (x ∷ xs) ys h = ap (λ r. x ∷ r) (last_off n xs ys (omega arith))
 
--- from the right to the left
-pub lend_left : (b c b' c' : List ℕ) (l : ℕ) → Beside b c l → 241 ≤ count_of b + count_of c → count_of b < 85 →
-    IsNode b' → level_of b' ≡ level_of b → pairs_of b' ≡ insert (pairs_of b) (count_of b) (get_or c 2 0, get_or c 257 0) →
-    IsNode c' → level_of c' ≡ level_of c → pairs_of c' ≡ remove (pairs_of c) 0 → Shared b' c' l (get_or c' 2 0) (pairs_of b ++ pairs_of c)
-lend_left b c b' c' l n big thin ib lb pb ic lc pc =
-    let nb = pairs_length b n.is in let nc = pairs_length c n.is' in
-    let e : (get_or c 2 0, get_or c 257 0) ≡ get_or (pairs_of c) 0 (0, 0) = sym (pairs_at_lem c n.is' 0 (omega (arith, n.some'))) in
-    let pb' : pairs_of b' ≡ pairs_of b ++ (get_or (pairs_of c) 0 (0, 0) ∷ []) = pb ∙ inserted_end (pairs_of b) (count_of b) (get_or c 2 0, get_or c 257 0) (sym nb) ∙ ap (λ r. pairs_of b ++ (r ∷ [])) e in
-    let lenb : count_of b' ≡ suc (count_of b) = sym (pairs_length b' ib) ∙ ap length pb' ∙ simp length-append (omega (arith, nb)) in
-    let lenc : suc (count_of c') ≡ count_of c = ap suc (sym (pairs_length c' ic) ∙ ap length pc) ∙ removed_length 0 (pairs_of c) (omega (arith, nc, n.some')) ∙ nc in
+module _ (b c : Contents) (s : Neighbours b c) where
+  -- from the right to the left
+  pub lend_left : (n : ℕ) → n ≡ length b.pairs → 241 ≤ length b.pairs + length c.pairs → length b.pairs < 85 →
+      Shares (record b { pairs = insert b.pairs n (get_or c.pairs 0 (0, 0)) }) (record c { pairs = remove c.pairs 0 }) b.level (b.pairs ++ c.pairs)
+  lend_left n e big thin = record {
+    level = refl;
+    level' = s.level;
+    pairs = ap (λ (r : List (ℕ × ℕ)). r ++ remove c.pairs 0) (inserted_end b.pairs n (get_or c.pairs 0 (0, 0)) e) ∙ first_off b.pairs c.pairs (omega (arith, s.some'));
+    full = omega (arith, s.some, length-insert b.pairs n (get_or c.pairs 0 (0, 0)) (omega arith));
+    full' = omega (arith, length-remove c.pairs 0 (omega (arith, s.some')));
+  }
+
+  -- from the left to the right
+  pub lend_right : (n : ℕ) → suc n ≡ length b.pairs → 241 ≤ length b.pairs + length c.pairs → length c.pairs < 85 →
+      Shares (record b { pairs = remove b.pairs n }) (record c { pairs = insert c.pairs 0 (get_or b.pairs n (0, 0)) }) b.level (b.pairs ++ c.pairs)
+  lend_right n e big thin = record {
+    level = refl;
+    level' = s.level;
+    pairs = last_off n b.pairs c.pairs e;
+    full = omega (arith, length-remove b.pairs n (omega arith));
+    full' = omega (arith, s.some', length-insert c.pairs 0 (get_or b.pairs n (0, 0)) (omega arith));
+  }
+
+  pub as_is : 85 ≤ length b.pairs → 85 ≤ length c.pairs → Shares b c b.level (b.pairs ++ c.pairs)
+  as_is x y = record { level = refl; level' = s.level; pairs = refl; full = x; full' = y }
+
+-- of the pages of two nodes
+pub neighbours : (b c : List ℕ) (l : ℕ) → Beside b c l → Neighbours (contents_of b) (contents_of c)
+neighbours b c l n =
+    let x = pairs_length b n.is in let y = pairs_length c n.is' in
+    record { level = n.level' ∙ sym n.level; some = omega (arith, n.some); some' = omega (arith, n.some'); both = omega (arith, n.both) }
+
+pub shared : (b c : List ℕ) (x y : Contents) (l : ℕ) (es : List (ℕ × ℕ)) → Page b x.level x.pairs → Page c y.level y.pairs → Shares x y l es → Shared b c l (key_at y.pairs 0) es
+shared b c x y l es p q s =
+    let n = pairs_length b p.is in let m = pairs_length c q.is in
     record {
-      is = ib;
-      is' = ic;
-      level = lb ∙ n.level;
-      level' = lc ∙ n.level';
-      pairs = ap₂ (λ (u v : List (ℕ × ℕ)). u ++ v) pb' pc ∙ first_off (pairs_of b) (pairs_of c) (omega (arith, nc, n.some'));
-      full = omega (arith, lenb, n.some);
-      full' = omega (arith, lenc);
-      key = key_at_lem c' ic 0 (omega (arith, lenc));
+      is = p.is;
+      is' = q.is;
+      level = p.level ∙ s.level;
+      level' = q.level ∙ s.level';
+      pairs = cc (p.pairs, q.pairs, s.pairs);
+      full = omega (arith, n, ap length p.pairs, s.full);
+      full' = omega (arith, m, ap length q.pairs, s.full');
+      key = ap (λ (es : List (ℕ × ℕ)). key_at es 0) q.pairs;
     }
-
--- from the left to the right
-pub lend_right : (b c b' c' : List ℕ) (l n : ℕ) → suc n ≡ count_of b → Beside b c l → 241 ≤ count_of b + count_of c → count_of c < 85 →
-    IsNode b' → level_of b' ≡ level_of b → pairs_of b' ≡ remove (pairs_of b) n →
-    IsNode c' → level_of c' ≡ level_of c → pairs_of c' ≡ insert (pairs_of c) 0 (get_or b (2 + n) 0, get_or b (257 + n) 0) → Shared b' c' l (get_or c' 2 0) (pairs_of b ++ pairs_of c)
-lend_right b c b' c' l n ne s big thin ib lb pb ic lc pc =
-    let nb = pairs_length b s.is in let nc = pairs_length c s.is' in
-    let e : (get_or b (2 + n) 0, get_or b (257 + n) 0) ≡ get_or (pairs_of b) n (0, 0) = sym (pairs_at_lem b s.is n (omega arith)) in
-    let lenb : suc (count_of b') ≡ count_of b = ap suc (sym (pairs_length b' ib) ∙ ap length pb) ∙ removed_length n (pairs_of b) (omega (arith, nb)) ∙ nb in
-    let lenc : count_of c' ≡ suc (count_of c) = sym (pairs_length c' ic) ∙ ap length pc ∙ ap suc nc in
-    record {
-      is = ib;
-      is' = ic;
-      level = lb ∙ s.level;
-      level' = lc ∙ s.level';
-      pairs = ap₂ (λ (u v : List (ℕ × ℕ)). u ++ v) pb (pc ∙ ap (λ r. r ∷ pairs_of c) e) ∙ last_off n (pairs_of b) (pairs_of c) (omega (arith, nb));
-      full = omega (arith, lenb);
-      full' = omega (arith, lenc, s.some');
-      key = key_at_lem c' ic 0 (omega (arith, lenc));
-    }
-
-pub as_is : (b c : List ℕ) (l : ℕ) → Beside b c l → 85 ≤ count_of b → 85 ≤ count_of c → Shared b c l (get_or c 2 0) (pairs_of b ++ pairs_of c)
-as_is b c l n x y = record { is = n.is; is' = n.is'; level = n.level; level' = n.level'; pairs = refl; full = x; full' = y; key = key_at_lem c n.is' 0 (omega (arith, y)) }
-
-pub append_count : (b c x : List ℕ) (j : ℕ) → IsNode b → IsNode c → IsNode x → j ≤ count_of c → pairs_of x ≡ pairs_of b ++ take j (pairs_of c) → count_of x ≡ count_of b + j
-append_count b c x j ib ic ix h e = sym (pairs_length x ix) ∙ ap length e ∙ simp (length-append, length-take) (omega (arith, pairs_length b ib, pairs_length c ic))
-
-pub append_all : (b c : List ℕ) (j : ℕ) → IsNode c → count_of c ≤ j → pairs_of b ++ take j (pairs_of c) ≡ pairs_of b ++ pairs_of c
-append_all b c j ic h = ap (λ (r : List (ℕ × ℕ)). pairs_of b ++ r) (take_all j (pairs_of c) (omega (arith, pairs_length c ic)))
