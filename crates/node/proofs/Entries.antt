@@ -1,7 +1,7 @@
 -- One entry of a node changed, or taken out.
 use Rattle.std.proofs.Common.{◌≡◌, ℕ, zero, suc, ◌+◌, ◌<◌, ◌≤◌, List, [], ◌∷◌, length, get_or, take, drop, set, Some, None, Option, sym, refl, ap, ◌∙◌, ap₂, arith}
 use lib.Seq.{take-set-lt}
-use Rattle.std.specs.List.{zip, insert, remove}
+use Rattle.std.specs.List.{zip, remove}
 use Rattle.std.proofs.lemmas.List.{set-set, get_or-set_same, get_or-set_other, length-set, drop-set-add, drop-set-lt, take-set-le}
 use Rattle.node.specs.Node.{Contents, contents_of, count_of, level_of, keys_of, words_of, pairs_of, IsNode, Page, amended}
 use Rattle.node.proofs.Words.{holds, sized, pairs_length, keys_length, words_length}

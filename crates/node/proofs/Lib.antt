@@ -7,4 +7,4 @@ pub mod Spots
 pub mod Entries
 pub mod Halves
 pub mod Written
-pub mod Lend
+pub mod Shared

@@ -1,6 +1,6 @@
 -- What a search for a key among rising entries tells of them.
-use Rattle.std.proofs.Common.{◌≡◌, ℕ, zero, suc, ◌+◌, ◌<◌, ◌≤◌, true, false, List, ◌∷◌, ◌++◌, length, get_or, take, drop, map, is_some, leb, Some, None, Option, Ok, Err, Result, sym, refl, ap, ◌∙◌, subst, inl, inr, arith}
-use Rattle.std.specs.List.{remove, slice_get}
+use Rattle.std.proofs.Common.{◌≡◌, ℕ, suc, ◌+◌, ◌<◌, ◌≤◌, true, false, List, ◌∷◌, ◌++◌, length, get_or, take, drop, map, is_some, leb, Some, None, Option, Ok, Err, Result, sym, refl, ap, ◌∙◌, subst, inl, inr, arith}
+use Rattle.std.specs.List.{slice_get}
 use Rattle.std.specs.List.Sorted.{IsPartitionPoint, IsPartitionedBy, IsBinarySearchResult}
 use Rattle.std.specs.Ordering.{nat_cmp}
 use Rattle.std.specs.Result.{MatchResult, result_ok}
@@ -8,7 +8,7 @@ use Rattle.std.proofs.lemmas.List.{take-append-drop, set_split, get_or-map, leng
 use Rattle.std.proofs.lemmas.List.Sorted.{searched, IsPartitionedBy-leb}
 use Rattle.std.proofs.lemmas.Bool.{le-ltb, eq-eqb, leb-true, leb-false, cases_eq}
 use Rattle.node.specs.Pairs.{Up, find, above, put_in, drop_in}
-use Rattle.node.specs.Node.{Contents, key_at, Rising, Lower, Upper, Found, Missing, Spot, place_of}
+use Rattle.node.specs.Node.{key_at, Rising, Lower, Upper, Found, Missing, Spot, place_of}
 use Rattle.node.proofs.Pairs.{up_low, up_high, up_rises, put_left, put_low, drop_left, drop_low}
 use Rattle.node.proofs.Places.{lower_cut, drop_at_lem, strict, find_there, find_not, above_is}
 

@@ -1,7 +1,8 @@
 -- What a node's page means: a list of entries; and what the functions on pages say of such lists.
 use Rattle.std.specs.Prelude.{◌≡◌, ℕ, suc, ◌+◌, ◌-◌, ◌<◌, ◌≤◌, List, [], ◌∷◌, ◌++◌, length, take, drop, is_some, Some, None, Option, true, false, Ok, Err, Result, slice_index, slice_index_or, slice_set}
 use Rattle.std.specs.List.{zip, insert, remove}
-use Rattle.node.specs.Layout.{page_words, keys_from, words_from, capacity, least}
+use Rattle.pages.specs.Pages.{page_words}
+use Rattle.node.specs.Layout.{keys_from, words_from, capacity, least}
 use Rattle.node.specs.Pairs.{Up, find, put_in, drop_in}
 
 abbrev pub count_of : List ℕ → ℕ

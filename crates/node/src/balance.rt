@@ -5,7 +5,8 @@ ghost use Rattle.node.specs.Layout.{capacity, join_most};
 ghost use Rattle.node.specs.Node.{Shares, Neighbours, Joins, amended};
 
 use crate::shift::copy_row;
-use crate::{COUNT, Entry, HALF, JOIN_MOST, KEYS, LEAST, LEVEL, Node, PAGE_WORDS, WORDS};
+use crate::{COUNT, Entry, HALF, JOIN_MOST, KEYS, LEAST, LEVEL, Node, WORDS};
+use pages::PAGE_WORDS;
 
 impl Node {
     // Moves the entries from place h on into a new node.

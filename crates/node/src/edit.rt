@@ -4,7 +4,8 @@ ghost use Rattle.std.specs.List.{insert, remove};
 ghost use Rattle.node.specs.Layout.{capacity};
 
 use crate::shift::{shift_in, shift_out};
-use crate::{COUNT, Entry, KEYS, Node, PAGE_WORDS, WORDS};
+use crate::{COUNT, Entry, KEYS, Node, WORDS};
+use pages::PAGE_WORDS;
 
 impl Node {
     // Puts the entry at place i.

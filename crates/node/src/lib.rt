@@ -7,16 +7,14 @@ mod edit;
 mod search;
 mod shift;
 
-pub use search::Way;
-
 ghost use Rattle.std.specs.Prelude.{◌≡◌, ℕ, ◌+◌, ◌<◌, ◌≤◌, List, [], length, map, slice_index_or, slice_get};
 ghost use Rattle.node.specs.Layout.{capacity};
 ghost use Rattle.node.specs.Node.{Contents, contents_of, IsNode, Page};
 
+use pages::PAGE_WORDS;
+pub use search::Way;
 use std::marker::Model;
 
-// Words of a page.
-pub const PAGE_WORDS: usize = 512;
 // The most entries of a node.
 pub const CAPACITY: usize = 255;
 // The fewest entries of a node that isn't the root: a third, so that a join or a loan always reaches it.
@@ -104,6 +102,10 @@ impl Node {
     pub fn nth(&self, i: usize) -> Option<Entry>
         ensures { result ≡ slice_get self.now.pairs i }
     {
-        if i < self.len() { Some(self.entry(i)) } else { None }
+        if i < self.len() {
+            Some(self.entry(i))
+        } else {
+            None
+        }
     }
 }

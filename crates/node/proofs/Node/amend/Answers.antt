@@ -1,4 +1,4 @@
-use Rattle.std.proofs.Common.{◌≡◌, ap, ◌∙◌, sym, arith}
+use Rattle.std.proofs.Common.{ap, ◌∙◌, sym, arith}
 use Rattle.node.proofs.Entries.{amended_key}
 use Rattle.node.specs.Node.{amended}
 use Rattle.node.proofs.Node.amend.Goals as goal

@@ -1,5 +1,6 @@
-use Rattle.std.proofs.Common.{◌≡◌, length, ap, ◌∙◌, arith}
+use Rattle.std.proofs.Common.{◌≡◌, length, refl, ◌∙◌, arith}
 use borrow.Rule.Slice.PartMut.{put_mid}
+use Rattle.node.specs.Node.{level_of}
 use Rattle.node.proofs.Rows.{length_row, first_length}
 use Rattle.node.proofs.Written.{shortened, moved}
 use Rattle.node.proofs.Node.split_off.Goals as goal
@@ -16,4 +17,4 @@ returns-clause-later c =
     let la : length a ≡ 255 = c.copy_row.auto.row ∙ length_row q 255 2 is.0 (omega arith) in
     let lb : length b ≡ 255 = c.copy_row-2.auto.row ∙ length_row (put_mid 2 255 q a) 255 257 (first_length q a is.0 la) (omega arith) in
     moved c.self.inside.words c.args.self.now c.len-n.result c.args.h c.self.invariant c.self.view_is c.len-n.ensures.is (omega arith)
-    q c.new-later.result.level is (c.later.view_is ∙ (cc)) (ap (λ v. v.level) c.new-later.ensures) a b la lb c.copy_row.ensures c.copy_row-2.ensures
+    q (level_of c.self.inside.words) is (c.later.view_is ∙ c.new-later.ensures) refl a b la lb c.copy_row.ensures c.copy_row-2.ensures
