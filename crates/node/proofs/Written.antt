@@ -1,8 +1,8 @@
 -- A node whose two rows and then its count were written.
-use Rattle.std.proofs.Common.{◌≡◌, ℕ, ◌+◌, ◌-◌, ◌<◌, ◌≤◌, List, [], ◌++◌, length, take, drop, set, sym, refl, ap, ◌∙◌, ap₂, arith}
+use Rattle.std.proofs.Common.{◌≡◌, ℕ, ◌+◌, ◌-◌, ◌<◌, ◌≤◌, List, ◌++◌, length, take, drop, set, sym, refl, ap, ◌∙◌, ap₂, arith}
 use borrow.Rule.Slice.PartMut.{put_mid}
 use Rattle.std.specs.List.{zip, insert, remove}
-use Rattle.std.proofs.lemmas.List.{get_or-set_other, take-take, drop-take, length-take, length-drop}
+use Rattle.std.proofs.lemmas.List.{get_or-set_other, get_or-set_same, length-set, take-take, drop-take, length-take, length-drop}
 use Rattle.node.specs.Node.{Contents, contents_of, count_of, level_of, keys_of, words_of, IsNode}
 use Rattle.node.proofs.Rows.{after, after_level, keys_after, words_after, zipped_inserted, zipped_removed, cut_row, length_row}
 use Rattle.node.proofs.Words.{holds, sized, keys_length, words_length}
@@ -57,19 +57,23 @@ module _ (p : List ℕ) (v : Contents) (is : IsNode p) (z : contents_of p ≡ v)
       let e : h + (n - h) ≡ n = omega arith in
       sym (drop-take h (n - h) (take 255 (drop s p))) ∙ ap (λ n. drop h (take n (take 255 (drop s p)))) e ∙ ap (λ (r : List ℕ). drop h r) (take-take n 255 (drop s p) (omega (arith, count)))
 
--- the entries from h on were written to a new node
+-- the entries from h on were written to another node
 pub moved : (p : List ℕ) (v : Contents) (n h : ℕ) → IsNode p → contents_of p ≡ v → n ≡ length v.pairs → h ≤ n →
-    (q : List ℕ) (l : ℕ) → IsNode q → contents_of q ≡ record { level = l; pairs = [] } → l ≡ level_of p → (a b : List ℕ) → length a ≡ 255 → length b ≡ 255 →
+    (q : List ℕ) → IsNode q → level_of q ≡ level_of p → (a b : List ℕ) → length a ≡ 255 → length b ≡ 255 →
     take (0 + length (take (n - h) (drop h (take 255 (drop 2 p))))) a ≡ take (n - h) (drop h (take 255 (drop 2 p))) →
     take (0 + length (take (n - h) (drop h (take 255 (drop 257 p))))) b ≡ take (n - h) (drop h (take 255 (drop 257 p))) →
     contents_of (after q a b (n - h)) ≡ record v { pairs = drop h v.pairs }
-moved p v n h is z hn le q l is' z' lv a b la lb x y =
+moved p v n h is z hn le q is' lv a b la lb x y =
     let few : n ≤ 255 = omega (arith, count p v is z n hn) in
     let rk = row_rest p v is z n hn h 2 le in
     let rw' = row_rest p v is z n hn h 257 le in
     let k : 0 + length (take (n - h) (drop h (take 255 (drop 2 p)))) ≡ n - h = simp (length-take, length-drop) (omega (arith, length_row p 255 2 is.0 (omega arith))) in
     let w : 0 + length (take (n - h) (drop h (take 255 (drop 257 p)))) ≡ n - h = simp (length-take, length-drop) (omega (arith, length_row p 255 257 is.0 (omega arith))) in
-    written q (record { level = l; pairs = [] }) is' z' 0 refl a b la lb (n - h) (λ _. drop h (take n (drop 2 p))) (λ _. drop h (take n (drop 257 p))) (drop h v.pairs) (omega arith)
+    written q (contents_of q) is' refl (length (contents_of q).pairs) refl a b la lb (n - h) (λ _. drop h (take n (drop 2 p))) (λ _. drop h (take n (drop 257 p))) (drop h v.pairs) (omega arith)
     (ap (λ j. take j a) (sym k) ∙ x ∙ rk) (ap (λ j. take j b) (sym w) ∙ y ∙ rw')
     (ap (λ n. zip (drop h (take n (drop 2 p))) (drop h (take n (drop 257 p)))) (sym (count p v is z n hn)) ∙ zipped_drop h (keys_of p) (words_of p) ∙ ap (λ v. drop h v.pairs) z)
     ∙ ap (λ (l : ℕ). record { level = l; pairs = drop h v.pairs }) (lv ∙ ap (λ v. v.level) z)
+
+-- the level was written
+pub leveled : (q : List ℕ) (l : ℕ) → IsNode q → IsNode (set q 1 l) × (level_of (set q 1 l) ≡ l)
+leveled q l is = ((length-set q 1 l ∙ is.0, omega (arith, get_or-set_other q 1 0 l 0 (λ e. omega (arith, e)))), get_or-set_same q 1 l 0 (omega arith))

@@ -9,14 +9,14 @@ use crate::{COUNT, Entry, HALF, JOIN_MOST, KEYS, LEAST, LEVEL, Node, WORDS};
 use pages::PAGE_WORDS;
 
 impl Node {
-    // Moves the entries from place h on into a new node.
-    fn split_off(&mut self, h: usize) -> Node
+    // Moves the entries from place h on to another node, which loses its own.
+    fn split_off(&mut self, h: usize, later: &mut Node)
         requires { h ≤ length self.old.pairs }
         ensures first { self.new ≡ record self.old { pairs = take h self.old.pairs } }
-        ensures later { result ≡ record self.old { pairs = drop h self.old.pairs } }
+        ensures later { later.new ≡ record self.old { pairs = drop h self.old.pairs } }
     {
         let n = self.len();
-        let mut later = Node::new(self.words[LEVEL]);
+        later.words[LEVEL] = self.words[LEVEL];
         copy_row(
             &self.words[KEYS..WORDS][h..n],
             &mut later.words[KEYS..WORDS],
@@ -29,23 +29,20 @@ impl Node {
         );
         later.words[COUNT] = (n - h) as u64;
         self.words[COUNT] = h as u64;
-        later
     }
 
-    // Puts the entry at place i of a full node, whose later half goes to a new one.
-    pub fn split_in(&mut self, i: usize, entry: Entry) -> Node
+    // Puts the entry at place i of a full node, whose later half goes to another one. That one is lent: a node that is handed out is a page more on the stack.
+    pub fn split_in(&mut self, later: &mut Node, i: usize, entry: Entry)
         requires full { length self.old.pairs ≡ capacity }
         requires place { i ≤ capacity }
-        ensures { Shares self.new result self.old.level (insert self.old.pairs i entry) }
+        ensures { Shares self.new later.new self.old.level (insert self.old.pairs i entry) }
     {
         if i < HALF {
-            let later = self.split_off(HALF - 1);
+            self.split_off(HALF - 1, later);
             self.insert_at(i, entry);
-            later
         } else {
-            let mut later = self.split_off(HALF);
+            self.split_off(HALF, later);
             later.insert_at(i - HALF, entry);
-            later
         }
     }
 

@@ -43,11 +43,7 @@ impl<'a, 'b> MemTree<'a, 'b> {
         ensures lends_marks { result.marks.ghost_name ≡ marks.entry.ghost_name }
         ensures lends_words { result.words.ghost_name ≡ words.entry.ghost_name }
     {
-        MemTree {
-            marks,
-            words,
-            root,
-        }
+        MemTree { marks, words, root }
     }
 
     // Where the tree stands.

@@ -27,7 +27,8 @@ fn enter<S: PageStore>(s: &mut S, p: u64, i: usize, entry: Entry) -> Result<Opti
         return Ok(None);
     }
     let q = s.alloc()?;
-    let later = node.split_in(i, entry);
+    let mut later = Node::new(0);
+    node.split_in(&mut later, i, entry);
     s.write(p, node.words())?;
     s.write(q, later.words())?;
     Ok(Some((later.entry(0).0, q)))

@@ -18,4 +18,4 @@ returns-clause-got g c =
     let b = c.words-2.result.now in let f = c.words-3.result.now in
     enter_two (st c.args.s.now) (st c.read_node.new.s) (st c.alloc.new.self) (st c.write-2.new.self) (st c.write-3.new.self) c.args.p c.in_ok-q.q c.args.i c.entry.result.0 c.args.entry v b f
     r.0 r.1 c.in_ok-q.ensures.got c.in_ok-write-2.ensures.got c.in_ok-write-3.ensures.got c.requires.asks.0
-    (subst (λ k. Shared b f v.level k es) (sym (ap (λ (e : ℕ × ℕ). e.0) c.entry.ensures)) (shared b f c.split_in-later.new.self c.split_in-later.result v.level es c.words-2.ensures c.words-3.ensures c.split_in-later.ensures))
+    (subst (λ k. Shared b f v.level k es) (sym (ap (λ (e : ℕ × ℕ). e.0) c.entry.ensures)) (shared b f c.split_in.new.self c.split_in.new.later v.level es c.words-2.ensures c.words-3.ensures c.split_in.ensures))
