@@ -1,10 +1,10 @@
--- One entry of a page: its word or its key changed, or the entry taken out; and a page that is begun.
+-- One entry of a node changed, or taken out.
 use Rattle.std.proofs.Common.{◌≡◌, ℕ, zero, suc, ◌+◌, ◌<◌, ◌≤◌, List, [], ◌∷◌, length, get_or, take, drop, set, Some, None, Option, sym, refl, ap, ◌∙◌, ap₂, arith}
 use lib.Seq.{take-set-lt}
-use Rattle.std.specs.List.{zip, insert, remove}
-use Rattle.std.proofs.lemmas.List.{get_or-set_same, get_or-set_other, length-set, drop-set-add, drop-set-lt, take-set-le}
-use Rattle.node.specs.Node.{count_of, level_of, keys_of, words_of, pairs_of, IsNode, Page, amended}
-use Rattle.node.proofs.Places.{pairs_length, keys_length, words_length}
+use Rattle.std.specs.List.{zip, remove}
+use Rattle.std.proofs.lemmas.List.{set-set, get_or-set_same, get_or-set_other, length-set, drop-set-add, drop-set-lt, take-set-le}
+use Rattle.node.specs.Node.{Contents, contents_of, count_of, level_of, keys_of, words_of, pairs_of, IsNode, Page, amended}
+use Rattle.node.proofs.Words.{holds, sized, pairs_length, keys_length, words_length}
 
 zipped_word : (i : ℕ) (ks ws : List ℕ) (x : ℕ) → length ks ≡ length ws → i < length ks → zip ks (set ws i x) ≡ set (zip ks ws) i ((get_or (zip ks ws) i (0, 0)).0, x)
 zipped_word i [] ws x e h = absurd (omega arith)
@@ -18,7 +18,7 @@ zipped_key i (x ∷ ks) [] k e h = absurd (omega arith)
 zipped_key zero (x ∷ ks) (w ∷ ws) k e h = refl
 zipped_key (suc i) (x ∷ ks) (w ∷ ws) k e h = ap (λ r. (x, w) ∷ r) (zipped_key i ks ws k (omega arith) (omega arith))
 
-pub word_set : (b : List ℕ) (i x : ℕ) → IsNode b → i < count_of b → Page (set b (257 + i) x) (level_of b) (set (pairs_of b) i ((get_or (pairs_of b) i (0, 0)).0, x))
+word_set : (b : List ℕ) (i x : ℕ) → IsNode b → i < count_of b → Page (set b (257 + i) x) (level_of b) (set (pairs_of b) i ((get_or (pairs_of b) i (0, 0)).0, x))
 word_set b i x is h =
     let n = count_of b in
     let c : get_or (set b (257 + i) x) 0 0 ≡ n = get_or-set_other b (257 + i) 0 x 0 (λ z. omega (arith, z)) in
@@ -31,7 +31,7 @@ word_set b i x is h =
       pairs = ap₂ (λ (u v : List ℕ). zip u v) kk ww ∙ zipped_word i (keys_of b) (words_of b) x (keys_length b is ∙ sym (words_length b is)) (omega (arith, keys_length b is));
     }
 
-pub key_set : (b : List ℕ) (i k : ℕ) → IsNode b → i < count_of b → Page (set b (2 + i) k) (level_of b) (set (pairs_of b) i (k, (get_or (pairs_of b) i (0, 0)).1))
+key_set : (b : List ℕ) (i k : ℕ) → IsNode b → i < count_of b → Page (set b (2 + i) k) (level_of b) (set (pairs_of b) i (k, (get_or (pairs_of b) i (0, 0)).1))
 key_set b i k is h =
     let n = count_of b in
     let c : get_or (set b (2 + i) k) 0 0 ≡ n = get_or-set_other b (2 + i) 0 k 0 (λ z. omega (arith, z)) in
@@ -43,27 +43,42 @@ key_set b i k is h =
       pairs = ap₂ (λ (u v : List ℕ). zip u v) kk ww ∙ zipped_key i (keys_of b) (words_of b) k (keys_length b is ∙ sym (words_length b is)) (omega (arith, keys_length b is));
     }
 
+-- an entry put in the stead of another
+entry_set : (b : List ℕ) (i k x : ℕ) → IsNode b → i < count_of b → Page (set (set b (2 + i) k) (257 + i) x) (level_of b) (set (pairs_of b) i (k, x))
+entry_set b i k x is h =
+    let es = pairs_of b in
+    let b' = set b (2 + i) k in
+    let y = key_set b i k is h in
+    let n : count_of b' ≡ count_of b = get_or-set_other b (2 + i) 0 k 0 (λ z. omega (arith, z)) in
+    let w = word_set b' i x y.is (omega arith) in
+    let z : (get_or (pairs_of b') i (0, 0)).0 ≡ k = ap (λ (es : List (ℕ × ℕ)). (get_or es i (0, 0)).0) y.pairs ∙ ap (λ (e : ℕ × ℕ). e.0) (get_or-set_same es i (k, (get_or es i (0, 0)).1) (0, 0) (omega (arith, pairs_length b is))) in
+    record {
+      is = w.is;
+      level = w.level ∙ y.level;
+      pairs = w.pairs ∙ ap₂ (λ (es : List (ℕ × ℕ)) (k : ℕ). set es i (k, x)) y.pairs z ∙ set-set es i (k, (get_or es i (0, 0)).1) (k, x);
+    }
+
+pub entry_put : (b : List ℕ) (v : Contents) (i : ℕ) (e : ℕ × ℕ) → IsNode b → contents_of b ≡ v → i < length v.pairs → contents_of (set (set b (2 + i) e.0) (257 + i) e.1) ≡ record v { pairs = set v.pairs i e }
+entry_put b v i e is z h =
+    let y = entry_set b i e.0 e.1 is (omega (arith, sized b v is z)) in
+    holds (set (set b (2 + i) e.0) (257 + i) e.1) v.level (set v.pairs i e) (y.level ∙ ap (λ v. v.level) z) (y.pairs ∙ ap (λ v. set v.pairs i e) z)
+
 set_two : (j : ℕ) (es : List (ℕ × ℕ)) (k : ℕ) → suc j < length es → set es (suc j) (k, (get_or es (suc j) (0, 0)).1) ≡ amended es j (Some k)
 set_two j [] k h = absurd (omega arith)
 set_two zero (e ∷ []) k h = absurd (omega arith)
 set_two zero (e ∷ (f ∷ es)) k h = refl
 set_two (suc j) (e ∷ es) k h = ap (λ r. e ∷ r) (set_two j es k (omega arith))
 
+pub amended_key : (j : ℕ) (es : List (ℕ × ℕ)) (k : ℕ) (e : ℕ × ℕ) → j + 1 < length es → e ≡ get_or es (j + 1) (0, 0) → set es (j + 1) (k, e.1) ≡ amended es j (Some k)
+amended_key j es k e h z =
+    let s : j + 1 ≡ suc j = omega arith in
+    ap (λ (e : ℕ × ℕ). set es (j + 1) (k, e.1)) z ∙ ap (λ n. set es n (k, (get_or es n (0, 0)).1)) s ∙ set_two j es k (omega arith)
+
 removed_two : (j : ℕ) (es : List (ℕ × ℕ)) → suc j < length es → remove es (suc j) ≡ amended es j None
 removed_two j [] h = absurd (omega arith)
 removed_two zero (e ∷ []) h = absurd (omega arith)
 removed_two zero (e ∷ (f ∷ es)) h = refl
 removed_two (suc j) (e ∷ es) h = ap (λ r. e ∷ r) (removed_two j es (omega arith))
-
-pub amend_key : (b b' : List ℕ) (j k : ℕ) (o : Option ℕ) → o ≡ Some k → IsNode b → j + 1 < count_of b → Page b' (level_of b) (set (pairs_of b) (j + 1) (k, (get_or (pairs_of b) (j + 1) (0, 0)).1)) → Page b' (level_of b) (amended (pairs_of b) j o)
-amend_key b b' j k o e is h y =
-    let s : j + 1 ≡ suc j = omega arith in
-    record { is = y.is; level = y.level; pairs = y.pairs ∙ ap (λ n. set (pairs_of b) n (k, (get_or (pairs_of b) n (0, 0)).1)) s ∙ set_two j (pairs_of b) k (omega (arith, pairs_length b is)) ∙ ap (λ o. amended (pairs_of b) j o) (sym e) }
-
-pub amend_out : (b b' : List ℕ) (j : ℕ) (o : Option ℕ) → o ≡ None → IsNode b → j + 1 < count_of b → IsNode b' → level_of b' ≡ level_of b → pairs_of b' ≡ remove (pairs_of b) (j + 1) → Page b' (level_of b) (amended (pairs_of b) j o)
-amend_out b b' j o e is h is' lv ps =
-    let s : j + 1 ≡ suc j = omega arith in
-    record { is = is'; level = lv; pairs = ps ∙ ap (λ n. remove (pairs_of b) n) s ∙ removed_two j (pairs_of b) (omega (arith, pairs_length b is)) ∙ ap (λ o. amended (pairs_of b) j o) (sym e) }
 
 -- how many are left
 pub amended_length : (j : ℕ) (es : List (ℕ × ℕ)) (o : Option ℕ) → suc j < length es → length es ≤ suc (length (amended es j o))
@@ -72,16 +87,3 @@ amended_length zero (e ∷ []) o h = absurd (omega arith)
 amended_length zero (e ∷ (f ∷ es)) None h = omega arith
 amended_length zero (e ∷ (f ∷ es)) (Some k) h = omega arith
 amended_length (suc j) (e ∷ es) o h = omega (arith, amended_length j es o (omega arith))
-
-pub removed_length : (n : ℕ) (xs : List (ℕ × ℕ)) → n < length xs → suc (length (remove xs n)) ≡ length xs
-removed_length n [] h = absurd (omega arith)
-removed_length zero (x ∷ xs) h = refl
-removed_length (suc n) (x ∷ xs) h = ap suc (removed_length n xs (omega arith))
-
--- a page begun with one entry
-pub count_one : (p b : List ℕ) (l : ℕ) (e : ℕ × ℕ) → length p ≡ 512 → IsNode b → pairs_of b ≡ insert (pairs_of (set (set p 0 0) 1 l)) 0 e → count_of b ≡ 1
-count_one p b l e lp is h =
-    let q = set (set p 0 0) 1 l in
-    let z : count_of q ≡ 0 = get_or-set_other (set p 0 0) 1 0 l 0 (λ z. omega (arith, z)) ∙ get_or-set_same p 0 0 0 (omega arith) in
-    let n : pairs_of q ≡ [] = ap (λ n. zip (take n (drop 2 q)) (take n (drop 257 q))) z in
-    sym (pairs_length b is) ∙ ap length h ∙ ap (λ (es : List (ℕ × ℕ)). length (e ∷ es)) n

@@ -1,8 +1,10 @@
 pub mod Mid
 pub mod Rows
+pub mod Words
 pub mod Pairs
 pub mod Places
 pub mod Spots
 pub mod Entries
 pub mod Halves
-pub mod Lend
+pub mod Written
+pub mod Shared

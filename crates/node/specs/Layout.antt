@@ -1,9 +1,6 @@
 -- The numbers of a node's page: word 0 is the count, word 1 the level, then come the keys, then the words.
 use Rattle.std.specs.Prelude.{ℕ}
 
-abbrev pub page_words : ℕ
-page_words = 512
-
 abbrev pub keys_from : ℕ
 keys_from = 2
 

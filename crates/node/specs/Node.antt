@@ -1,7 +1,8 @@
 -- What a node's page means: a list of entries; and what the functions on pages say of such lists.
-use Rattle.std.specs.Prelude.{◌≡◌, ℕ, suc, ◌+◌, ◌-◌, ◌<◌, ◌≤◌, Bool, true, false, List, [], ◌∷◌, ◌++◌, length, take, drop, is_some, Some, None, Option, slice_index, slice_index_or, slice_set}
+use Rattle.std.specs.Prelude.{◌≡◌, ℕ, suc, ◌+◌, ◌-◌, ◌<◌, ◌≤◌, List, [], ◌∷◌, ◌++◌, length, take, drop, is_some, Some, None, Option, true, false, Ok, Err, Result, slice_index, slice_index_or, slice_set}
 use Rattle.std.specs.List.{zip, insert, remove}
-use Rattle.node.specs.Layout.{page_words, keys_from, words_from, capacity, least}
+use Rattle.pages.specs.Pages.{page_words}
+use Rattle.node.specs.Layout.{keys_from, words_from, capacity, least}
 use Rattle.node.specs.Pairs.{Up, find, put_in, drop_in}
 
 abbrev pub count_of : List ℕ → ℕ
@@ -40,37 +41,41 @@ pub record Shared (b c : List ℕ) (l k : ℕ) (es : List (ℕ × ℕ)) : Type 0
   pub full' : least ≤ count_of c
   pub key : (slice_index_or (pairs_of c) 0 (0, 0)).0 ≡ k
 
--- by places in the page
-abbrev pub key_at : List ℕ → ℕ → ℕ
-key_at b j = slice_index b (keys_from + j)
+-- what a node holds: its level, which is 0 for a leaf, and its entries
+pub record Contents : Type 0 where
+  pub level : ℕ
+  pub pairs : List (ℕ × ℕ)
 
-abbrev pub Rises : List ℕ → Type 0
-Rises b = (i j : ℕ) → i < j → j < count_of b → key_at b i < key_at b j
+abbrev pub contents_of : List ℕ → Contents
+contents_of b = record { level = level_of b; pairs = pairs_of b }
+
+-- the key of entry i, by places in the node
+abbrev pub key_at : List (ℕ × ℕ) → ℕ → ℕ
+key_at es i = (slice_index_or es i (0, 0)).0
+
+-- keys rise
+abbrev pub Rising : List (ℕ × ℕ) → Type 0
+Rising es = (lo : ℕ) × ((hi : ℕ) × Up lo hi es)
 
 -- i is how many keys are below k
-pub record Lower (b : List ℕ) (k i : ℕ) : Type 0 where
-  pub few : i ≤ count_of b
-  pub low : (j : ℕ) → j < i → key_at b j < k
-  pub high : (j : ℕ) → i ≤ j → j < count_of b → k ≤ key_at b j
+pub record Lower (es : List (ℕ × ℕ)) (k i : ℕ) : Type 0 where
+  pub few : i ≤ length es
+  pub low : (j : ℕ) → j < i → key_at es j < k
+  pub high : (j : ℕ) → i ≤ j → j < length es → k ≤ key_at es j
 
 -- i is how many keys are at most k
-pub record Upper (b : List ℕ) (k i : ℕ) : Type 0 where
-  pub few : i ≤ count_of b
-  pub low : (j : ℕ) → j < i → key_at b j ≤ k
-  pub high : (j : ℕ) → i ≤ j → j < count_of b → k < key_at b j
+pub record Upper (es : List (ℕ × ℕ)) (k i : ℕ) : Type 0 where
+  pub few : i ≤ length es
+  pub low : (j : ℕ) → j < i → key_at es j ≤ k
+  pub high : (j : ℕ) → i ≤ j → j < length es → k < key_at es j
 
--- a leaf: its keys rise
-abbrev pub Leaf : List ℕ → Type 0
-Leaf b = IsNode b × ((lo hi : ℕ) × Up lo hi (pairs_of b))
-
--- a page that may be asked for the child of k
-pub record Inner (b : List ℕ) (k : ℕ) : Type 0 where
-  pub is : IsNode b
+-- entries that may be asked for the child of k
+pub record Reaches (es : List (ℕ × ℕ)) (k : ℕ) : Type 0 where
   pub lo : ℕ
   pub hi : ℕ
-  pub up : Up lo hi (pairs_of b)
-  pub some : 0 < count_of b
-  pub from : (slice_index_or (pairs_of b) 0 (0, 0)).0 ≤ k
+  pub up : Up lo hi es
+  pub some : 0 < length es
+  pub from : key_at es 0 ≤ k
 
 -- entry i of es is the one whose child has k, if one has
 pub record Chosen (es : List (ℕ × ℕ)) (k i : ℕ) : Type 0 where
@@ -102,9 +107,14 @@ pub record Missing (es : List (ℕ × ℕ)) (k i : ℕ) : Type 0 where
   pub drops : drop_in k es ≡ es
   pub was : is_some (find k es) ≡ false
 
-abbrev pub Spot : List (ℕ × ℕ) → ℕ → ℕ → Bool → Type 0
-Spot es k i true = Found es k i
-Spot es k i false = Missing es k i
+-- what a search for k tells: where it is, or where it belongs
+abbrev pub Spot : List (ℕ × ℕ) → ℕ → Result ℕ ℕ → Type 0
+Spot es k (Ok i) = Found es k i
+Spot es k (Err i) = Missing es k i
+
+abbrev pub place_of : Result ℕ ℕ → ℕ
+place_of (Ok i) = i
+place_of (Err i) = i
 
 -- one entry or two: (k, x), and more
 abbrev pub rows : ℕ → ℕ → Option (ℕ × ℕ) → List (ℕ × ℕ)
@@ -121,10 +131,25 @@ pub record Beside (b c : List ℕ) (l : ℕ) : Type 0 where
   pub some' : least - 1 ≤ count_of c
   pub both : least + least - 1 ≤ count_of b + count_of c
 
+-- the same of what they hold
+pub record Neighbours (b c : Contents) : Type 0 where
+  pub level : c.level ≡ b.level
+  pub some : least - 1 ≤ length b.pairs
+  pub some' : least - 1 ≤ length c.pairs
+  pub both : least + least - 1 ≤ length b.pairs + length c.pairs
+
+-- nodes b and c, at level l, share es
+pub record Shares (b c : Contents) (l : ℕ) (es : List (ℕ × ℕ)) : Type 0 where
+  pub level : b.level ≡ l
+  pub level' : c.level ≡ l
+  pub pairs : b.pairs ++ c.pairs ≡ es
+  pub full : least ≤ length b.pairs
+  pub full' : least ≤ length c.pairs
+
 -- the first has all that both had, or they share it, the second from key k on
-abbrev pub Joined : List ℕ → List ℕ → ℕ → List (ℕ × ℕ) → Option ℕ → Type 0
-Joined b c l es None = Page b l es
-Joined b c l es (Some k) = Shared b c l k es
+abbrev pub Joins : Contents → Contents → ℕ → List (ℕ × ℕ) → Option ℕ → Type 0
+Joins b c l es None = b ≡ record { level = l; pairs = es }
+Joins b c l es (Some k) = Shares b c l es × (key_at c.pairs 0 ≡ k)
 
 -- the page c, if it is still there
 abbrev pub beside : ℕ → Option ℕ → Option (ℕ × ℕ)

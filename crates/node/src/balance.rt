@@ -1,91 +1,103 @@
-// Entries that go from one page to another: splits, joins and loans.
+// Entries that go from one node to another: splits, joins and loans.
 ghost use Rattle.std.specs.Prelude.{◌≡◌, ℕ, ◌+◌, ◌-◌, ◌<◌, ◌≤◌, ◌++◌, length, take, drop, is_some, nat_lt};
 ghost use Rattle.std.specs.List.{insert};
-ghost use Rattle.node.specs.Layout.{page_words, capacity, join_most};
-ghost use Rattle.node.specs.Node.{count_of, level_of, pairs_of, IsNode, Page, Shared, Beside, Joined, amended};
+ghost use Rattle.node.specs.Layout.{capacity, join_most};
+ghost use Rattle.node.specs.Node.{Shares, Neighbours, Joins, amended};
 
-use crate::edit::{insert_at, remove_at, set_key};
-use crate::search::entry;
-use crate::shift::move_tail;
-use crate::{CAPACITY, COUNT, HALF, JOIN_MOST, KEYS, LEAST, LEVEL, PAGE_WORDS, WORDS};
+use crate::shift::copy_row;
+use crate::{COUNT, Entry, HALF, JOIN_MOST, KEYS, LEAST, LEVEL, Node, WORDS};
+use pages::PAGE_WORDS;
 
-// Moves the entries from place h on into a fresh page.
-fn halve(page: &mut [u64], fresh: &mut [u64], h: usize)
-    requires { (IsNode page.old) × ((h ≤ count_of page.old) × (length fresh.old ≡ page_words)) }
-    ensures node { (IsNode page.new) × (IsNode fresh.new) }
-    ensures pairs { (pairs_of page.new ≡ take h (pairs_of page.old)) × (pairs_of fresh.new ≡ drop h (pairs_of page.old)) }
-    ensures level { (level_of page.new ≡ level_of page.old) × (level_of fresh.new ≡ level_of page.old) }
-{
-    let n = page[COUNT] as usize;
-    fresh[LEVEL] = page[LEVEL];
-    move_tail(&page[KEYS..WORDS], &mut fresh[KEYS..WORDS], n, h);
-    move_tail(
-        &page[WORDS..PAGE_WORDS],
-        &mut fresh[WORDS..PAGE_WORDS],
-        n,
-        h,
-    );
-    fresh[COUNT] = (n - h) as u64;
-    page[COUNT] = h as u64;
-}
-
-// Puts the entry (k, x) at place i of a full page, whose later half goes to a fresh one; the first key of that.
-pub fn split_in(page: &mut [u64], fresh: &mut [u64], i: usize, k: u64, x: u64) -> u64
-    requires { (IsNode page.old) × ((count_of page.old ≡ capacity) × ((i ≤ capacity) × (length fresh.old ≡ page_words))) }
-    ensures { Shared page.new fresh.new (level_of page.old) result (insert (pairs_of page.old) i (k, x)) }
-{
-    if i < HALF {
-        halve(page, fresh, HALF - 1);
-        insert_at(page, i, k, x);
-    } else {
-        halve(page, fresh, HALF);
-        insert_at(fresh, i - HALF, k, x);
+impl Node {
+    // Moves the entries from place h on to another node, which loses its own.
+    fn split_off(&mut self, h: usize, later: &mut Node)
+        requires { h ≤ length self.old.pairs }
+        ensures first { self.new ≡ record self.old { pairs = take h self.old.pairs } }
+        ensures later { later.new ≡ record self.old { pairs = drop h self.old.pairs } }
+    {
+        let n = self.len();
+        later.words[LEVEL] = self.words[LEVEL];
+        copy_row(
+            &self.words[KEYS..WORDS][h..n],
+            &mut later.words[KEYS..WORDS],
+            0,
+        );
+        copy_row(
+            &self.words[WORDS..PAGE_WORDS][h..n],
+            &mut later.words[WORDS..PAGE_WORDS],
+            0,
+        );
+        later.words[COUNT] = (n - h) as u64;
+        self.words[COUNT] = h as u64;
     }
-    fresh[KEYS]
-}
 
-// Puts the entries of the right page behind those of the left.
-fn append(left: &mut [u64], right: &[u64])
-    requires { (IsNode left.old) × ((IsNode right.now) × (count_of left.old + count_of right.now ≤ capacity)) }
-    ensures { Page left.new (level_of left.old) (pairs_of left.old ++ pairs_of right.now) }
-{
-    let n = left[COUNT] as usize;
-    let m = right[COUNT] as usize;
-    for j in 0..m {
-        insert_at(left, n + j, right[KEYS + j], right[WORDS + j]);
+    // Puts the entry at place i of a full node, whose later half goes to another one. That one is lent: a node that is handed out is a page more on the stack.
+    pub fn split_in(&mut self, later: &mut Node, i: usize, entry: Entry)
+        requires full { length self.old.pairs ≡ capacity }
+        requires place { i ≤ capacity }
+        ensures { Shares self.new later.new self.old.level (insert self.old.pairs i entry) }
+    {
+        if i < HALF {
+            self.split_off(HALF - 1, later);
+            self.insert_at(i, entry);
+        } else {
+            self.split_off(HALF, later);
+            later.insert_at(i - HALF, entry);
+        }
     }
-}
 
-// Makes one node of two where that leaves room; else gives a thin one of them an entry of the other, and tells the first key of the right.
-pub fn join(left: &mut [u64], right: &mut [u64], l: u64) -> Option<u64>
-    requires { Beside left.old right.old l }
-    ensures joined { Joined left.new right.new l (pairs_of left.old ++ pairs_of right.old) result }
-    ensures slack { is_some result ≡ nat_lt join_most (count_of left.old + count_of right.old) }
-{
-    let n = left[COUNT] as usize;
-    let m = right[COUNT] as usize;
-    if n + m <= JOIN_MOST {
-        append(left, right);
-        return None;
+    // Puts the entries of the right node behind those of this one.
+    fn append(&mut self, right: &Node)
+        requires { length self.old.pairs + length right.now.pairs ≤ capacity }
+        ensures { self.new ≡ record self.old { pairs = self.old.pairs ++ right.now.pairs } }
+    {
+        let n = self.len();
+        let m = right.len();
+        copy_row(
+            &right.words[KEYS..WORDS][..m],
+            &mut self.words[KEYS..WORDS],
+            n,
+        );
+        copy_row(
+            &right.words[WORDS..PAGE_WORDS][..m],
+            &mut self.words[WORDS..PAGE_WORDS],
+            n,
+        );
+        self.words[COUNT] = (n + m) as u64;
     }
-    if n < LEAST {
-        insert_at(left, n, right[KEYS], right[WORDS]);
-        remove_at(right, 0);
-    } else if m < LEAST {
-        insert_at(right, 0, left[KEYS + n - 1], left[WORDS + n - 1]);
-        remove_at(left, n - 1);
-    }
-    Some(right[KEYS])
-}
 
-// Makes the entries at j and the next of an inner node those of the joined children.
-pub fn amend(page: &mut [u64], j: usize, more: Option<u64>)
-    requires { (IsNode page.old) × (j + 1 < count_of page.old) }
-    ensures { Page page.new (level_of page.old) (amended (pairs_of page.old) j more) }
-{
-    if let Some(key) = more {
-        set_key(page, j + 1, key);
-    } else {
-        remove_at(page, j + 1);
+    // Makes one node of two where that leaves room; else gives a thin one of them an entry of the other, and tells the first key of the right.
+    pub fn join(&mut self, right: &mut Node) -> Option<u64>
+        requires { Neighbours self.old right.old }
+        ensures joined { Joins self.new right.new self.old.level (self.old.pairs ++ right.old.pairs) result }
+        ensures slack { is_some result ≡ nat_lt join_most (length self.old.pairs + length right.old.pairs) }
+    {
+        let n = self.len();
+        let m = right.len();
+        if n + m <= JOIN_MOST {
+            self.append(right);
+            return None;
+        }
+        if n < LEAST {
+            self.insert_at(n, right.remove_at(0));
+        } else if m < LEAST {
+            right.insert_at(0, self.remove_at(n - 1));
+        }
+        Some(right.entry(0).0)
+    }
+
+    // Makes the entries at j and the next of an inner node those of the joined children.
+    pub fn amend(&mut self, j: usize, more: Option<u64>)
+        requires { j + 1 < length self.old.pairs }
+        ensures { self.new ≡ record self.old { pairs = amended self.old.pairs j more } }
+    {
+        // A node has few entries: its words say so.
+        let _ = &self.words;
+        if let Some(key) = more {
+            let (_, child) = self.entry(j + 1);
+            self.set(j + 1, (key, child));
+        } else {
+            self.remove_at(j + 1);
+        }
     }
 }

@@ -1,63 +1,46 @@
-// Changes of one entry of a page.
+// Changes of one entry of a node.
 ghost use Rattle.std.specs.Prelude.{◌≡◌, ℕ, ◌+◌, ◌-◌, ◌<◌, ◌≤◌, length, slice_index_or, slice_set};
 ghost use Rattle.std.specs.List.{insert, remove};
-ghost use Rattle.node.specs.Layout.{page_words, capacity};
-ghost use Rattle.node.specs.Node.{count_of, level_of, pairs_of, IsNode, Page, rows};
+ghost use Rattle.node.specs.Layout.{capacity};
 
 use crate::shift::{shift_in, shift_out};
-use crate::{COUNT, KEYS, LEVEL, PAGE_WORDS, WORDS};
+use crate::{COUNT, Entry, KEYS, Node, WORDS};
+use pages::PAGE_WORDS;
 
-// Puts the entry (k, x) at place i.
-pub fn insert_at(page: &mut [u64], i: usize, k: u64, x: u64)
-    requires { (IsNode page.old) × ((count_of page.old < capacity) × (i ≤ count_of page.old)) }
-    ensures node { IsNode page.new }
-    ensures level { level_of page.new ≡ level_of page.old }
-    ensures pairs { pairs_of page.new ≡ insert (pairs_of page.old) i (k, x) }
-{
-    let n = page[COUNT] as usize;
-    shift_in(&mut page[KEYS..WORDS], n, i, k);
-    shift_in(&mut page[WORDS..PAGE_WORDS], n, i, x);
-    page[COUNT] = n as u64 + 1;
-}
+impl Node {
+    // Puts the entry at place i.
+    pub fn insert_at(&mut self, i: usize, entry: Entry)
+        requires room { length self.old.pairs < capacity }
+        requires place { i ≤ length self.old.pairs }
+        ensures { self.new ≡ record self.old { pairs = insert self.old.pairs i entry } }
+    {
+        let n = self.len();
+        shift_in(&mut self.words[KEYS..WORDS], n, i, entry.0);
+        shift_in(&mut self.words[WORDS..PAGE_WORDS], n, i, entry.1);
+        self.words[COUNT] = n as u64 + 1;
+    }
 
-// Takes out the entry at place i.
-pub fn remove_at(page: &mut [u64], i: usize)
-    requires { (IsNode page.old) × (i < count_of page.old) }
-    ensures node { IsNode page.new }
-    ensures level { level_of page.new ≡ level_of page.old }
-    ensures pairs { pairs_of page.new ≡ remove (pairs_of page.old) i }
-{
-    let n = page[COUNT] as usize;
-    shift_out(&mut page[KEYS..WORDS], n, i);
-    shift_out(&mut page[WORDS..PAGE_WORDS], n, i);
-    page[COUNT] = n as u64 - 1;
-}
+    // Takes out the entry at place i.
+    pub fn remove_at(&mut self, i: usize) -> Entry
+        requires { i < length self.old.pairs }
+        ensures entry { result ≡ slice_index_or self.old.pairs i (0, 0) }
+        ensures pairs { self.new ≡ record self.old { pairs = remove self.old.pairs i } }
+    {
+        let n = self.len();
+        let entry = self.entry(i);
+        shift_out(&mut self.words[KEYS..WORDS], n, i);
+        shift_out(&mut self.words[WORDS..PAGE_WORDS], n, i);
+        self.words[COUNT] = n as u64 - 1;
+        entry
+    }
 
-// Makes x the word of the entry at place i.
-pub fn set_word(page: &mut [u64], i: usize, x: u64)
-    requires { (IsNode page.old) × (i < count_of page.old) }
-    ensures { Page page.new (level_of page.old) (slice_set (pairs_of page.old) i ((slice_index_or (pairs_of page.old) i (0, 0)).0, x)) }
-{
-    page[WORDS + i] = x;
-}
-
-// Makes k the key of the entry at place i.
-pub fn set_key(page: &mut [u64], i: usize, k: u64)
-    requires { (IsNode page.old) × (i < count_of page.old) }
-    ensures { Page page.new (level_of page.old) (slice_set (pairs_of page.old) i (k, (slice_index_or (pairs_of page.old) i (0, 0)).1)) }
-{
-    page[KEYS + i] = k;
-}
-
-// Makes the page a node of one entry or two.
-pub fn begin(page: &mut [u64], l: u64, k: u64, x: u64, more: Option<(u64, u64)>)
-    requires { length page.old ≡ page_words }
-    ensures { Page page.new l (rows k x more) }
-{
-    page[COUNT] = 0;
-    page[LEVEL] = l;
-    insert_at(page, 0, k, x);
-    if let Some((key, q)) = more {
-        insert_at(page, 1, key, q);
+    // Puts the entry in the stead of the one at place i.
+    pub fn set(&mut self, i: usize, entry: Entry)
+        requires { i < length self.old.pairs }
+        ensures { self.new ≡ record self.old { pairs = slice_set self.old.pairs i entry } }
+    {
+        let words = &mut self.words;
+        words[KEYS + i] = entry.0;
+        words[WORDS + i] = entry.1;
     }
 }

@@ -1,103 +1,9 @@
-// What stands in a page, and where a key is or would be.
-ghost use Rattle.std.specs.Prelude.{◌≡◌, ℕ, ◌+◌, ◌-◌, ◌<◌, ◌≤◌, length, slice_index_or};
+// Where a key is or would be in a node.
+ghost use Rattle.std.specs.Prelude.{◌≡◌, ℕ, ◌+◌, ◌-◌, ◌<◌, ◌≤◌, length};
 ghost use Rattle.node.specs.Pairs.{find, above};
-ghost use Rattle.node.specs.Node.{count_of, pairs_of, IsNode, Rises, Lower, Upper, Leaf, Inner, Leads, Spot};
+ghost use Rattle.node.specs.Node.{Rising, Lower, Upper, Reaches, Leads, Spot, place_of};
 
-use crate::{COUNT, KEYS, WORDS};
-
-// How many entries the page has.
-pub fn count(page: &[u64]) -> usize
-    requires { IsNode page.now }
-    ensures { result ≡ count_of page.now }
-{
-    page[COUNT] as usize
-}
-
-// The entry at place i.
-pub fn entry(page: &[u64], i: usize) -> (u64, u64)
-    requires { (IsNode page.now) × (i < count_of page.now) }
-    ensures { result ≡ slice_index_or (pairs_of page.now) i (0, 0) }
-{
-    (page[KEYS + i], page[WORDS + i])
-}
-
-// How many keys are below k.
-pub fn lower(page: &[u64], k: u64) -> usize
-    requires { (IsNode page.now) × (Rises page.now) }
-    ensures { Lower page.now k result }
-{
-    let mut low = 0;
-    let mut high = page[COUNT] as usize;
-    while low < high {
-        let mid = low + (high - low) / 2;
-        if page[KEYS + mid] < k {
-            low = mid + 1;
-        } else {
-            high = mid;
-        }
-    }
-    low
-}
-
-// How many keys are at most k.
-pub fn upper(page: &[u64], k: u64) -> usize
-    requires { (IsNode page.now) × (Rises page.now) }
-    ensures { Upper page.now k result }
-{
-    let mut low = 0;
-    let mut high = page[COUNT] as usize;
-    while low < high {
-        let mid = low + (high - low) / 2;
-        if page[KEYS + mid] <= k {
-            low = mid + 1;
-        } else {
-            high = mid;
-        }
-    }
-    low
-}
-
-// The word at k in a leaf.
-pub fn look(page: &[u64], k: u64) -> Option<u64>
-    requires { Leaf page.now }
-    ensures { result ≡ find k (pairs_of page.now) }
-{
-    let n = page[COUNT] as usize;
-    let i = lower(page, k);
-    if i < n && page[KEYS + i] == k {
-        Some(page[WORDS + i])
-    } else {
-        None
-    }
-}
-
-// The first pair of a leaf with a key above k.
-pub fn after(page: &[u64], k: u64) -> Option<(u64, u64)>
-    requires { Leaf page.now }
-    ensures { result ≡ above k (pairs_of page.now) }
-{
-    let n = page[COUNT] as usize;
-    let i = upper(page, k);
-    if i < n {
-        Some((page[KEYS + i], page[WORDS + i]))
-    } else {
-        None
-    }
-}
-
-// Where k is or would be in a leaf, and whether it is there.
-pub fn find_key(page: &[u64], k: u64) -> (usize, bool)
-    requires { Leaf page.now }
-    ensures { Spot (pairs_of page.now) k result.0 result.1 }
-{
-    let n = page[COUNT] as usize;
-    let i = lower(page, k);
-    if i < n && page[KEYS + i] == k {
-        (i, true)
-    } else {
-        (i, false)
-    }
-}
+use crate::{Entry, Node};
 
 // A way down from an inner node: the place of an entry, its child, and the child to the right of that.
 #[derive(Clone, Copy)]
@@ -107,17 +13,51 @@ pub struct Way {
     pub right: Option<u64>,
 }
 
-// The way to the child that has k.
-pub fn way_to(page: &[u64], k: u64) -> Way
-    requires { Inner page.now k }
-    ensures { Leads (pairs_of page.now) k result.at result.down result.right }
-{
-    let n = page[COUNT] as usize;
-    let i = upper(page, k);
-    let right = if i < n { Some(page[WORDS + i]) } else { None };
-    Way {
-        at: i - 1,
-        down: page[WORDS + i - 1],
-        right,
+impl Node {
+    // Where k is in a leaf, or where it would be.
+    pub fn find(&self, k: u64) -> Result<usize, usize>
+        requires { Rising self.now.pairs }
+        ensures spot { Spot self.now.pairs k result }
+        ensures place { Lower self.now.pairs k (place_of result) }
+    {
+        self.keys().binary_search(&k)
+    }
+
+    // How many keys are at most k.
+    pub fn upper(&self, k: u64) -> usize
+        requires { Rising self.now.pairs }
+        ensures { Upper self.now.pairs k result }
+    {
+        self.keys().partition_point(|key| *key <= k)
+    }
+
+    // The word at k in a leaf.
+    pub fn get(&self, k: u64) -> Option<u64>
+        requires { Rising self.now.pairs }
+        ensures { result ≡ find k self.now.pairs }
+    {
+        let i = self.find(k).ok()?;
+        Some(self.entry(i).1)
+    }
+
+    // The first pair of a leaf with a key above k.
+    pub fn after(&self, k: u64) -> Option<Entry>
+        requires { Rising self.now.pairs }
+        ensures { result ≡ above k self.now.pairs }
+    {
+        self.nth(self.upper(k))
+    }
+
+    // The way from an inner node to the child that has k.
+    pub fn way_to(&self, k: u64) -> Way
+        requires { Reaches self.now.pairs k }
+        ensures { Leads self.now.pairs k result.at result.down result.right }
+    {
+        let i = self.upper(k);
+        Way {
+            at: i - 1,
+            down: self.entry(i - 1).1,
+            right: self.nth(i).map(|entry| entry.1),
+        }
     }
 }

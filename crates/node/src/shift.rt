@@ -1,5 +1,5 @@
 // Rows of words, of which the first n count.
-ghost use Rattle.std.specs.Prelude.{◌≡◌, ℕ, ◌+◌, ◌-◌, ◌<◌, ◌≤◌, length, take, drop};
+ghost use Rattle.std.specs.Prelude.{◌≡◌, ℕ, ◌+◌, ◌-◌, ◌<◌, ◌≤◌, ◌++◌, length, take, drop};
 ghost use Rattle.std.specs.List.{insert, remove};
 // Puts x at i among the first n words of the row, moving the later ones up by one.
 pub fn shift_in(row: &mut [u64], n: usize, i: usize, x: u64)
@@ -20,11 +20,11 @@ pub fn shift_out(row: &mut [u64], n: usize, i: usize)
     part.rotate_left(1);
 }
 
-// Copies the words from h on, of the first n, to the front of another row.
-pub fn move_tail(from: &[u64], to: &mut [u64], n: usize, h: usize)
-    requires { (n ≤ length from.now) × ((h ≤ n) × (n ≤ length to.old + h)) }
-    ensures { take (n - h) to.new ≡ drop h (take n from.now) }
+// Copies the words to the row, behind its first n.
+pub fn copy_row(words: &[u64], row: &mut [u64], n: usize)
+    requires { n + length words.now ≤ length row.old }
+    ensures { take (n + length words.now) row.new ≡ take n row.old ++ words.now }
 {
-    let part = &mut to[0..n - h];
-    part.copy_from_slice(&from[h..n]);
+    let part = &mut row[n..n + words.len()];
+    part.copy_from_slice(words);
 }

@@ -1,16 +1,19 @@
 -- Marks and pages in lent slices.
-use Rattle.std.proofs.Common.{◌≡◌, ℕ, zero, suc, ◌+◌, ◌-◌, ◌*◌, ◌<◌, ◌≤◌, Bool, true, false, cond, eqb, List, [], ◌∷◌, length, get_or, take, drop, set, sym, refl, ap, ◌∙◌, subst, inl, inr, arith}
+use Rattle.std.proofs.Common.{◌≡◌, ℕ, zero, suc, ◌+◌, ◌-◌, ◌*◌, ◌<◌, ◌≤◌, Bool, true, cond, eqb, List, [], ◌∷◌, length, get_or, drop, set, sym, refl, ap, ◌∙◌, subst, inl, inr, is_ok, Ok, Result, Some, None, Option, arith, rules}
 use borrow.Rule.Slice.PartMut.{put_mid}
-use Rattle.std.proofs.lemmas.List.{get_or-set_same, get_or-set_other, length-set, length-drop, get_or-drop, drop-set-add, drop-set-lt, drop_more, drop_all, take_all}
+use Rattle.std.proofs.lemmas.List.{get_or-set_same, get_or-set_other, length-set, length-drop, get_or-drop, drop-set-add, drop-set-lt, take_all}
 use Rattle.std.proofs.lemmas.Bool.{eq-eqb, ne_eqb, cases_eq, cases_lt, cases_order}
 use Rattle.node.proofs.Mid.{length_put_mid, part_same, part_below, part_above}
+use Rattle.std.specs.Prelude.{EachIndex, IsSome, IsOk, IfOk, MatchOption}
+use Rattle.tree.specs.Grow.{Grown}
+use Rattle.tree.specs.Shrink.{Dropped}
 use Rattle.tree.specs.State.{Still, Given, Wrote, Freed}
 use Rattle.tree.specs.Tree.{Once, Sound, pairs_of_tree}
 use Rattle.tree.proofs.Down.{sound_still}
 use Rattle.tree.proofs.Growth.{once_still}
 use Rattle.tree.proofs.Sizes.{low_trees}
-use Rattle.pagemem.specs.Memory.{mark_of, free, state_of, Fits, Kept, kept, Filled, Good, pairs_in}
-use Rattle.pagemem.specs.declared.TreeRoot.{TreeRoot}
+use Rattle.pagemem.specs.Memory.{mark_of, free, state_of, Fits, Kept, kept, Good, pairs_in}
+use Rattle.tree.specs.declared.TreeRoot.{TreeRoot}
 
 under : (xs : List ℕ) (i : ℕ) → 1 ≤ get_or xs i 0 → i < length xs
 under [] i h = absurd (omega arith)
@@ -31,14 +34,16 @@ unfolding free
 free_le [] = omega arith
 free_le (x ∷ xs) = elim (cases_eq x 0) [ inl z ↦ rw (eq-eqb x 0 z) (omega (arith, free_le xs)) | inr z ↦ rw (ne_eqb x 0 z) (omega (arith, free_le xs)) ]
 
--- the marks past one that is not 0
-pub free_past : (xs : List ℕ) (i : ℕ) → i < length xs → (get_or xs i 0 ≡ 0 → ⊥) → free (drop i xs) ≡ free (drop (i + 1) xs)
+-- no mark is 0
+pub free_none : (xs : List ℕ) → ((k : ℕ) → k < length xs → get_or xs k 0 ≡ 0 → ⊥) → free xs ≡ 0
 unfolding free
-free_past xs i h ne = ap free (drop_more xs i 0 h) ∙ rw (ne_eqb (get_or xs i 0) 0 ne) (omega arith)
+free_none [] h = refl
+free_none (x ∷ xs) h = rw (ne_eqb x 0 (h 0 (omega arith))) (omega (arith, free_none xs (λ k l. h (suc k) (omega arith))))
 
-pub free_end : (xs : List ℕ) (i : ℕ) → length xs ≤ i → free (drop i xs) ≡ 0
-unfolding free
-free_end xs i h = ap free (drop_all i xs h)
+-- then one is found
+pub some_free : (xs : List ℕ) (o : Option ℕ) (P : ℕ → Type 0) → 0 < free xs → MatchOption o (EachIndex xs (λ k. get_or xs k 0 ≡ 0 → ⊥)) P → IsSome o
+some_free xs None P h m = absurd (omega (arith, free_none xs m))
+some_free xs (Some p) P h m = search rules
 
 -- a mark and the count were changed
 module _ (ms ws : List ℕ) (p v n : ℕ) (f : Fits ms ws) (near : p + 1 < length ms) where
@@ -118,25 +123,14 @@ pub mark_near : (ms : List ℕ) (p : ℕ) → 1 ≤ mark_of ms p → p + 1 < len
 mark_near ms p h = omega (arith, under ms (1 + p) h)
 
 -- a page written into the words
-pub filled : (ws b : List ℕ) (p at k : ℕ) → at ≡ p * 512 → k ≡ 512 → length b ≡ 512 → 512 * (p + 1) ≤ length ws → Filled ws p b (put_mid at k ws b)
-filled ws b p at k ae ke lb h =
-    subst (λ at. Filled ws p b (put_mid at k ws b)) (sym ae) (subst (λ k. Filled ws p b (put_mid (p * 512) k ws b)) (sym ke) (record {
-      here = part_same (p * 512) 512 ws b (omega arith) lb 512 (omega arith) ∙ all b lb;
-      others = λ q ne. elim (cases_order q p) [
-        | inl z ↦ absurd (ne z)
-        | inr (inl z) ↦ part_below (p * 512) 512 ws b (omega arith) lb (q * 512) 512 (omega arith)
-        | inr (inr z) ↦ part_above (p * 512) 512 ws b (omega arith) lb (q * 512) 512 (omega arith)
-      ];
-      long = length_put_mid (p * 512) 512 ws b (omega arith) lb;
-    }))
-  where
-    all : (b : List ℕ) → length b ≡ 512 → take 512 b ≡ b
-    all b h = take_all 512 b (omega arith)
-
-pub wrote : (ms ws vs b : List ℕ) (p : ℕ) → Filled ws p b vs → Wrote p b (state_of ms ws) (state_of ms vs)
-wrote ms ws vs b p f = record {
-  here = f.here;
-  others = f.others;
+pub wrote : (ms ws b : List ℕ) (p : ℕ) → length b ≡ 512 → 512 * (p + 1) ≤ length ws → Wrote p b (state_of ms ws) (state_of ms (put_mid (512 * p) 512 ws b))
+wrote ms ws b p lb h = record {
+  here = part_same (512 * p) 512 ws b (omega arith) lb 512 (omega arith) ∙ take_all 512 b (omega arith);
+  others = λ q ne. elim (cases_order q p) [
+    | inl z ↦ absurd (ne z)
+    | inr (inl z) ↦ part_below (512 * p) 512 ws b (omega arith) lb (512 * q) 512 (omega arith)
+    | inr (inr z) ↦ part_above (512 * p) 512 ws b (omega arith) lb (512 * q) 512 (omega arith)
+  ];
   taken = refl;
   room = refl;
   left = refl;
@@ -144,8 +138,8 @@ wrote ms ws vs b p f = record {
   spends = record { dirty = λ q. omega arith; spare = omega arith };
 }
 
-pub fits_wrote : (ms ws vs : List ℕ) → length vs ≡ length ws → Fits ms ws → Fits ms vs
-fits_wrote ms ws vs e f = record { some = f.some; few = f.few; long = omega (arith, f.long); counted = f.counted }
+pub fits_wrote : (ms ws b : List ℕ) (p : ℕ) → length b ≡ 512 → 512 * (p + 1) ≤ length ws → Fits ms ws → Fits ms (put_mid (512 * p) 512 ws b)
+fits_wrote ms ws b p lb h f = let e = length_put_mid (512 * p) 512 ws b (omega arith) lb in record { some = f.some; few = f.few; long = omega (arith, f.long); counted = f.counted }
 
 pub fits_of : (ok : Bool) (ms ws : List ℕ) → Kept ok ms ws → Fits ms ws
 fits_of ok ms ws (kept z f) = f
@@ -193,22 +187,34 @@ module _ (ms : List ℕ) (some : 0 < length ms) (h : (k : ℕ) → k < length ms
         once = λ q. omega (arith, clear_marks q);
       }
 
-  pub clear_empty : (ws : List ℕ) → pairs_in ws (record { page = 0; height = 0 }) ≡ []
-  unfolding pairs_of_tree
-  clear_empty ws = refl
+pub clear_empty : (ws : List ℕ) → pairs_in ws (record { page = 0; height = 0 }) ≡ []
+unfolding pairs_of_tree
+clear_empty ws = refl
 
 pub good_low : (ms ws : List ℕ) (t : TreeRoot) → Good ms ws t → t.height ≤ 6
 good_low ms ws t g = low ms ws t.height t.page g.fits g.sound g.once
 
-pub good_still : (ms ws ns vs : List ℕ) (t : TreeRoot) (n : ℕ) → Good ms ws t → Kept true ns vs → Still n (state_of ms ws) (state_of ns vs) → Good ns vs t
-good_still ms ws ns vs t n g k s = record {
-  fits = fits_of true ns vs k;
-  sound = sound_still n (state_of ms ws) (state_of ns vs) t.height t.page s g.sound;
-  once = once_still n (state_of ms ws) (state_of ns vs) s g.once;
-}
+-- a call that went well left a tree at t'
+module _ {A E : Type 0} (r : Result A E) (v : A) (ns vs : List ℕ) (is : r ≡ Ok v) (k : Kept (is_ok r) ns vs) where
+  pub good_still : (ms ws : List ℕ) (t : TreeRoot) (n : ℕ) (P : A → Type 0) → Good ms ws t → IfOk r (λ o. P o × Still n (state_of ms ws) (state_of ns vs)) → Good ns vs t
+  good_still ms ws t n P g h =
+      let s : P v × Still n (state_of ms ws) (state_of ns vs) = subst (λ r. IfOk r (λ o. P o × Still n (state_of ms ws) (state_of ns vs))) is h in
+      record {
+        fits = fits_of (is_ok r) ns vs k;
+        sound = sound_still n (state_of ms ws) (state_of ns vs) t.height t.page s.1 g.sound;
+        once = once_still n (state_of ms ws) (state_of ns vs) s.1 g.once;
+      }
 
-pub pairs_still : (ms ws ns vs : List ℕ) (t : TreeRoot) (n : ℕ) → Still n (state_of ms ws) (state_of ns vs) → pairs_in vs t ≡ pairs_in ws t
-pairs_still ms ws ns vs t n s = ap (λ (v : ℕ → List ℕ). pairs_of_tree v t.height t.page) s.page
+  pub good_grown : (ms ws : List ℕ) (t t' : TreeRoot) (q x : ℕ) (P : A → Type 0) → IfOk r (λ o. Grown (state_of ms ws) (state_of ns vs) t.height t.page q x t'.height t'.page × P o) → Good ns vs t'
+  good_grown ms ws t t' q x P h =
+      let s : Grown (state_of ms ws) (state_of ns vs) t.height t.page q x t'.height t'.page × P v = subst (λ r. IfOk r (λ o. Grown (state_of ms ws) (state_of ns vs) t.height t.page q x t'.height t'.page × P o)) is h in
+      record { fits = fits_of (is_ok r) ns vs k; sound = s.0.sound; once = s.0.once }
 
-pub no_failure : (ms ws : List ℕ) → Kept false ms ws → ⊥
-no_failure ms ws k = let z = went_well false ms ws k in let y : ◌≡◌ {A = ℕ} 0 1 = cc in omega arith
+  pub good_dropped : (ms ws : List ℕ) (t t' : TreeRoot) (q : ℕ) (P : A → Type 0) → IfOk r (λ o. Dropped (state_of ms ws) (state_of ns vs) t.height t.page q t'.height t'.page × P o) → Good ns vs t'
+  good_dropped ms ws t t' q P h =
+      let s : Dropped (state_of ms ws) (state_of ns vs) t.height t.page q t'.height t'.page × P v = subst (λ r. IfOk r (λ o. Dropped (state_of ms ws) (state_of ns vs) t.height t.page q t'.height t'.page × P o)) is h in
+      record { fits = fits_of (is_ok r) ns vs k; sound = s.0.sound; once = s.0.once }
+
+-- each call goes well
+pub is_fine : {A E : Type 0} (r : Result A E) (ns vs : List ℕ) → Kept (is_ok r) ns vs → IsOk r
+is_fine r ns vs k = let z = went_well (is_ok r) ns vs k in search rules

@@ -1,12 +1,9 @@
 -- Pages in memory: the marks' first word counts the free pages, then comes a mark for each page, 1 where it is taken; the words are the pages.
-use Rattle.std.specs.Prelude.{◌≡◌, ℕ, ◌+◌, ◌-◌, ◌*◌, ◌<◌, ◌≤◌, Bool, true, cond, List, [], ◌∷◌, length, take, drop, ◌==◌, ◌≢◌, slice_index, slice_index_or}
-use Rattle.node.specs.Layout.{page_words}
+use Rattle.std.specs.Prelude.{◌≡◌, ℕ, ◌+◌, ◌-◌, ◌*◌, ◌<◌, ◌≤◌, Bool, true, cond, List, [], ◌∷◌, length, drop, ◌==◌, slice_index, slice_index_or}
+use Rattle.pages.specs.Pages.{page_words, page_at}
 use Rattle.tree.specs.State.{PageState}
 use Rattle.tree.specs.Tree.{Once, Sound, pairs_of_tree}
-use Rattle.pagemem.specs.declared.TreeRoot.{TreeRoot}
-
-abbrev pub page_at : List ℕ → ℕ → List ℕ
-page_at ws p = take page_words (drop (p * page_words) ws)
+use Rattle.tree.specs.declared.TreeRoot.{TreeRoot}
 
 abbrev pub mark_of : List ℕ → ℕ → ℕ
 mark_of ms p = slice_index ms (1 + p)
@@ -33,12 +30,6 @@ pub record Fits (ms ws : List ℕ) : Type 0 where
 -- a store in memory never fails; shut, so that a search takes it as it stands
 pub data Kept (ok : Bool) (ms ws : List ℕ) : Type 0 where
   kept : ok ≡ true → Fits ms ws → Kept ok ms ws
-
--- page p is now b
-pub record Filled (ws : List ℕ) (p : ℕ) (b vs : List ℕ) : Type 0 where
-  pub here : page_at vs p ≡ b
-  pub others : (q : ℕ) → (q ≢ p) → page_at vs q ≡ page_at ws q
-  pub long : length vs ≡ length ws
 
 -- a tree in memory that may be used
 pub record Good (ms ws : List ℕ) (t : TreeRoot) : Type 0 where

@@ -4,7 +4,7 @@ use Rattle.node.specs.Node.{count_of, pairs_of}
 use Rattle.tree.specs.State.{PageState, Still, Freed}
 use Rattle.tree.specs.Tree.{joined, pairs_at, pages_at, occ, Kids, Well, Mine, Sound, pairs_of_tree, root_min, Once, pages_of_tree, keys_end}
 use Rattle.tree.specs.Shrink.{Shrunk, Wide, Was, Worn, Crowned, Dropped}
-use Rattle.node.proofs.Places.{pairs_length}
+use Rattle.node.proofs.Words.{pairs_length}
 use Rattle.tree.proofs.Down.{kids_of, mine_here}
 use Rattle.tree.proofs.Alike.{Alike, alike}
 use Rattle.tree.proofs.Parts.{occ_one, one_here, root_few}
@@ -48,11 +48,11 @@ enough : (l n : ℕ) → root_min l - 1 ≤ n → (l ≡ 0 → n ≡ 0 → ⊥) 
 enough zero n h x y = let z : n ≡ 0 → ⊥ = x refl in omega (arith, z)
 enough (suc l) n h x y = let z : n ≡ 1 → ⊥ = y (λ q. omega (arith, q)) in omega (arith, z, h)
 
-pub crown_stays : (d e : PageState) (height root : ℕ) (b : List ℕ) → b ≡ d.page root → Still 1 d e → Once d → Worn d height root → (height ≡ 1 → count_of b ≡ 0 → ⊥) → ((height ≡ 1 → ⊥) → count_of b ≡ 1 → ⊥) → Crowned d e height root height root
-crown_stays d e height root b be s on w x y =
+pub crown_stays : (d e : PageState) (height root : ℕ) → Still 1 d e → Once d → Worn d height root → (height ≡ 1 → length (pairs_of (d.page root)) ≡ 0 → ⊥) → ((height ≡ 1 → ⊥) → length (pairs_of (d.page root)) ≡ 1 → ⊥) → Crowned d e height root height root
+crown_stays d e height root s on w x y =
     let l = w.0 in let he : height ≡ suc l = w.1 in
     let nd = well_node d.page (root_min l - 1) l root 0 keys_end w.2 in
-    let bc : count_of b ≡ count_of (d.page root) = ap (λ b. count_of b) be in
+    let bc : length (pairs_of (d.page root)) ≡ count_of (d.page root) = pairs_length (d.page root) nd.is in
     subst (λ h. Crowned d e h root h root) (sym w.1) (stays_suc d e l root s on
     (enough l (count_of (d.page root)) nd.full (λ z n. x (w.1 ∙ ap suc z) (bc ∙ n)) (λ z n. y (λ q. z (omega (arith, q, he))) (bc ∙ n))) w.2 w.3)
 
@@ -74,10 +74,11 @@ gone_suc d d1 e zero root z s fr on n w =
     }
 gone_suc d d1 e (suc l) root z s fr on n w = absurd (omega arith)
 
-pub crown_gone : (d d1 e : PageState) (height root : ℕ) (b : List ℕ) → b ≡ d.page root → Still 1 d d1 → Freed root d1 e → Once d → Worn d height root → height ≡ 1 → count_of b ≡ 0 → Crowned d e height root 0 root
-crown_gone d d1 e height root b be s fr on w h n =
+pub crown_gone : (d d1 e : PageState) (height root : ℕ) → Still 1 d d1 → Freed root d1 e → Once d → Worn d height root → height ≡ 1 → length (pairs_of (d.page root)) ≡ 0 → Crowned d e height root 0 root
+crown_gone d d1 e height root s fr on w h n =
     let l = w.0 in let he : height ≡ suc l = w.1 in
-    subst (λ h. Crowned d e h root 0 root) (sym w.1) (gone_suc d d1 e l root (omega (arith, h, he)) s fr on (sym (ap (λ b. count_of b) be) ∙ n) w.2)
+    let nd = well_node d.page (root_min l - 1) l root 0 keys_end w.2 in
+    subst (λ h. Crowned d e h root 0 root) (sym w.1) (gone_suc d d1 e l root (omega (arith, h, he)) s fr on (sym (pairs_length (d.page root) nd.is) ∙ n) w.2)
 
 -- a root with one child goes
 child_suc : (d d1 e : PageState) (l root : ℕ) → Still 1 d d1 → Freed root d1 e → Once d → count_of (d.page root) ≡ 1 → Well d.page 1 (suc l) root 0 keys_end → Mine d (suc l) root → Crowned d e (suc (suc l)) root (suc l) (get_or (pairs_of (d.page root)) 0 (0, 0)).1
@@ -107,15 +108,14 @@ child_any : (d d1 e : PageState) (l root : ℕ) → 0 < l → Still 1 d d1 → F
 child_any d d1 e zero root h s fr on n w mine = absurd (omega arith)
 child_any d d1 e (suc l) root h s fr on n w mine = child_suc d d1 e l root s fr on n w mine
 
-pub crown_child : (d d1 e : PageState) (height root c : ℕ) (b : List ℕ) → b ≡ d.page root → Still 1 d d1 → Freed root d1 e → Once d → Worn d height root → (height ≡ 1 → ⊥) → count_of b ≡ 1 → c ≡ (get_or (pairs_of b) 0 (0, 0)).1 → Crowned d e height root (height - 1) c
-crown_child d d1 e height root c b be s fr on w h n ce =
+pub crown_child : (d d1 e : PageState) (height root c : ℕ) → Still 1 d d1 → Freed root d1 e → Once d → Worn d height root → (height ≡ 1 → ⊥) → length (pairs_of (d.page root)) ≡ 1 → c ≡ (get_or (pairs_of (d.page root)) 0 (0, 0)).1 → Crowned d e height root (height - 1) c
+crown_child d d1 e height root c s fr on w h n ce =
     let l = w.0 in let he : height ≡ suc l = w.1 in
-    let n' : count_of (d.page root) ≡ 1 = sym (ap (λ b. count_of b) be) ∙ n in
-    let c' : (get_or (pairs_of (d.page root)) 0 (0, 0)).1 ≡ c = sym (ce ∙ ap (λ (b : List ℕ). (get_or (pairs_of b) 0 (0, 0)).1) be) in
+    let nd = well_node d.page (root_min l - 1) l root 0 keys_end w.2 in
     let le : l ≡ height - 1 = omega (arith, he) in
     let pos : 0 < l = omega (arith, h, he) in
-    subst (λ c. Crowned d e height root (height - 1) c) c' (subst (λ l. Crowned d e height root l (get_or (pairs_of (d.page root)) 0 (0, 0)).1) le
-    (subst (λ h. Crowned d e h root l (get_or (pairs_of (d.page root)) 0 (0, 0)).1) (sym w.1) (child_any d d1 e l root pos s fr on n' w.2 w.3)))
+    subst (λ c. Crowned d e height root (height - 1) c) (sym ce) (subst (λ l. Crowned d e height root l (get_or (pairs_of (d.page root)) 0 (0, 0)).1) le
+    (subst (λ h. Crowned d e h root l (get_or (pairs_of (d.page root)) 0 (0, 0)).1) (sym w.1) (child_any d d1 e l root pos s fr on (sym (pairs_length (d.page root) nd.is) ∙ n) w.2 w.3)))
 
 pub crown_once : (d d1 : PageState) (height root : ℕ) → Still 1 d d1 → Once d → Worn d height root → d1.taken root ≡ 1
 crown_once d d1 height root s on w = let m = mine_here d w.0 root w.3 in omega (arith, m, on root, ap (λ (t : ℕ → ℕ). t root) s.taken)

@@ -5,7 +5,7 @@ use Rattle.node.specs.Node.{pairs_of, rows}
 use Rattle.tree.specs.State.{PageState}
 use Rattle.tree.specs.Tree.{joined, pairs_at, pages_at, occ, Kids, Well, Sound, pairs_of_tree, root_min, Once, pages_of_tree, keys_end}
 use Rattle.tree.specs.Grow.{Grew, New, Built, Grown}
-use Rattle.node.proofs.Places.{pairs_length}
+use Rattle.node.proofs.Words.{pairs_length}
 use Rattle.tree.proofs.Alike.{alike_all}
 use Rattle.tree.proofs.Parts.{one_or, one_here, root_few}
 use Rattle.tree.proofs.Spent.{spends_more, spends_then}

@@ -2,11 +2,11 @@
 use Rattle.std.proofs.Common.{◌≡◌, ℕ, zero, suc, ◌+◌, ◌<◌, ◌≤◌, List, [], ◌∷◌, ◌++◌, length, get_or, take, drop, Some, None, sym, refl, ap, ◌∙◌, subst, inl, inr, arith}
 use Rattle.std.proofs.lemmas.Bool.{eq-eqb, cases_lt}
 use Rattle.node.specs.Pairs.{Up, find, first, above}
-use Rattle.node.specs.Node.{count_of, pairs_of, IsNode, Chosen, Inner, Leaf}
+use Rattle.node.specs.Node.{count_of, pairs_of, IsNode, Chosen, Rising, Reaches}
 use Rattle.tree.specs.State.{PageState, Still}
 use Rattle.tree.specs.Tree.{joined, pairs_at, pages_at, occ, Kids, Well, Mine, Asks, Sound, pairs_of_tree, keys_end, root_min}
 use Rattle.node.proofs.Pairs.{find_in, above_left, above_some, above_none, above_first}
-use Rattle.node.proofs.Places.{pairs_length}
+use Rattle.node.proofs.Words.{pairs_length}
 use Rattle.tree.proofs.Kids.{At, kids_at, kids_up, kids_joined, kids_next, joined_at, well_up, occ-++}
 use Rattle.std.proofs.lemmas.List.{drop_more, drop_all}
 
@@ -53,9 +53,9 @@ occ_kid v l p i q h =
     omega (arith, ap (λ ps. occ q ps) (joined_at f es i h), occ-++ q (joined f (take i es)) (f (get_or es i (0, 0)).1 ++ joined f (drop (suc i) es)), occ-++ q (f (get_or es i (0, 0)).1) (joined f (drop (suc i) es)))
 
 -- a leaf, and an inner node, may be asked
-pub asks_leaf : (d : PageState) (l p k : ℕ) → l ≡ 0 → Asks d l p k → Leaf (d.page p)
+pub asks_leaf : (d : PageState) (l p k : ℕ) → l ≡ 0 → Asks d l p k → IsNode (d.page p) × Rising (pairs_of (d.page p))
 unfolding Well
-asks_leaf d zero p k e a = (a.well.0.is, (a.lo, a.hi, a.well.1))
+asks_leaf d zero p k e a = (a.well.0.is, (a.lo, (a.hi, a.well.1)))
 asks_leaf d (suc l) p k e a = absurd (omega arith)
 
 pub leaf_pairs : (v : ℕ → List ℕ) (l p : ℕ) → l ≡ 0 → pairs_at v l p ≡ pairs_of (v p)
@@ -67,19 +67,15 @@ kids_first : (W : ℕ → ℕ → ℕ → Type 0) (lo hi : ℕ) (es : List (ℕ 
 kids_first W lo hi [] k h = absurd (omega arith)
 kids_first W lo hi (e ∷ es) k h = k.0
 
-pub asks_inner : (d : PageState) (l p k : ℕ) → 0 < l → Asks d l p k → Inner (d.page p) k
+pub asks_inner : (d : PageState) (l p k : ℕ) → 0 < l → Asks d l p k → IsNode (d.page p) × Reaches (pairs_of (d.page p)) k
 unfolding Well
 asks_inner d zero p k e a = absurd (omega arith)
 asks_inner d (suc l) p k e a =
     let n = a.well.0 in let ks = a.well.1 in let es = pairs_of (d.page p) in
-    record {
-      is = n.is;
-      lo = a.lo;
-      hi = a.hi;
-      up = kids_up (kids_of d.page l) a.lo a.hi es ks;
-      some = omega (arith, n.full, a.some);
-      from = omega (arith, a.from, kids_first (kids_of d.page l) a.lo a.hi es ks (omega (arith, n.full, a.some, pairs_length (d.page p) n.is)));
-    }
+    let h : 0 < length es = omega (arith, n.full, a.some, pairs_length (d.page p) n.is) in (
+      n.is,
+      record { lo = a.lo; hi = a.hi; up = kids_up (kids_of d.page l) a.lo a.hi es ks; some = h; from = omega (arith, a.from, kids_first (kids_of d.page l) a.lo a.hi es ks h) },
+    )
 
 -- down by one level, over a read
 pub record Below (d e : PageState) (l j p c k : ℕ) : Type 0 where

@@ -6,7 +6,7 @@ use Rattle.tree.specs.State.{PageState}
 use Rattle.tree.specs.Tree.{joined, pairs_at, pages_at, occ, Kids, Node, Well, Mine, Asks, Once}
 use Rattle.tree.specs.Shrink.{less, Cut, Shrunk}
 use Rattle.node.proofs.Pairs.{up_drop, drop_in_lem}
-use Rattle.node.proofs.Places.{pairs_length}
+use Rattle.node.proofs.Words.{pairs_length}
 use Rattle.tree.proofs.Kids.{kids-++, joined_at, occ-++}
 use Rattle.tree.proofs.Down.{kid, kid_low, kid_high, lefts, rights, pairs_split, kids_of}
 use Rattle.tree.proofs.Alike.{AlikeAll, alike_all}

@@ -7,7 +7,7 @@ use Rattle.tree.specs.State.{PageState, Still}
 use Rattle.tree.specs.Tree.{joined, pairs_at, pages_at, occ, Kids, Well, Mine, Asks, Once}
 use Rattle.tree.specs.Grow.{Entered, extra, fewest, Grew}
 use Rattle.node.proofs.Pairs.{up_put, put_in_lem}
-use Rattle.node.proofs.Places.{pairs_length}
+use Rattle.node.proofs.Words.{pairs_length}
 use Rattle.tree.proofs.Kids.{kids-++, joined_at, occ-++, well_node}
 use Rattle.tree.proofs.Down.{kid, kid_low, kid_high, lefts, rights, pairs_split, mine_here}
 use Rattle.tree.proofs.Alike.{AlikeAll, alike_all}

@@ -6,7 +6,7 @@ use Rattle.node.specs.Node.{count_of, pairs_of, IsNode, Chosen, rows, beside, am
 use Rattle.tree.specs.State.{PageState, Still}
 use Rattle.tree.specs.Tree.{joined, pairs_at, pages_at, occ, Kids, Well, Mine, Asks, Once}
 use Rattle.tree.specs.Shrink.{gone, Near, Mends, Mended, Shrunk, Wide}
-use Rattle.node.proofs.Places.{pairs_length}
+use Rattle.node.proofs.Words.{pairs_length}
 use Rattle.tree.proofs.Kids.{kids-++, occ-++, well_node}
 use Rattle.tree.proofs.Down.{kid, kids_of}
 use Rattle.tree.proofs.Alike.{AlikeAll, alike_all}

@@ -5,7 +5,7 @@ use Rattle.std.proofs.lemmas.Bool.{lt-ltb, le-ltb, ne_eqb, cases_order, cases_lt
 use Rattle.node.specs.Node.{pairs_of}
 use Rattle.tree.specs.State.{PageState}
 use Rattle.tree.specs.Tree.{joined, pairs_at, pages_at, occ, Kids, Well, Once, Sound, pairs_of_tree, pages_of_tree, root_min, keys_end, Within, UpTree, Occupied}
-use Rattle.node.proofs.Places.{pairs_length}
+use Rattle.node.proofs.Words.{pairs_length}
 use Rattle.tree.proofs.Kids.{occ-++, well_up}
 use Rattle.tree.proofs.Parts.{one_or, one_here}
 

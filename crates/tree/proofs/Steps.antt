@@ -1,54 +1,29 @@
 -- One node: what a write of its page, or of it and a new one, leaves.
-use Rattle.std.proofs.Common.{◌≡◌, ℕ, ◌+◌, ◌≤◌, List, get_or, set, Some, None, Option, sym, ap, ◌∙◌, subst, arith}
+use Rattle.std.proofs.Common.{◌≡◌, ℕ, ◌+◌, ◌≤◌, List, set, Some, None, Option, sym, ap, ◌∙◌, subst, arith}
 use Rattle.std.specs.List.{insert}
 use Rattle.node.specs.Pairs.{put_in}
-use Rattle.node.specs.Node.{level_of, pairs_of, Page, Shared, Found, Missing}
+use Rattle.node.specs.Node.{Contents, contents_of, level_of, pairs_of, Shared, Found, Missing}
 use Rattle.tree.specs.State.{PageState, Still, Given, Wrote}
-use Rattle.tree.specs.Grow.{Entered, Built, Holds, Fresh}
-use Rattle.tree.proofs.Spent.{spends_then, spends_given, spends_more, after_still, one_write}
+use Rattle.tree.specs.Grow.{Entered, Holds, Fresh}
+use Rattle.tree.proofs.Spent.{spends_then, spends_given, after_still, one_write}
 
-pub enter_two : (d d1 d2 d3 d4 : PageState) (p q i k x key : ℕ) (b0 b f : List ℕ) → b0 ≡ d.page p → Still 1 d d1 → Given q d1 d2 → Wrote p b d2 d3 → Wrote q f d3 d4 → 1 ≤ d.taken p →
-    Shared b f (level_of b0) key (insert (pairs_of b0) i (k, x)) → Entered 2 d d4 (level_of (d.page p)) p (insert (pairs_of (d.page p)) i (k, x)) (Some (key, q))
-enter_two d d1 d2 d3 d4 p q i k x key b0 b f e s gi w1 w2 tp sh =
+pub enter_two : (d d1 d2 d3 d4 : PageState) (p q i key : ℕ) (e : ℕ × ℕ) (v : Contents) (b f : List ℕ) → v ≡ contents_of (d.page p) → Still 1 d d1 → Given q d1 d2 → Wrote p b d2 d3 → Wrote q f d3 d4 → 1 ≤ d.taken p →
+    Shared b f v.level key (insert v.pairs i e) → Entered 2 d d4 (level_of (d.page p)) p (insert (pairs_of (d.page p)) i e) (Some (key, q))
+enter_two d d1 d2 d3 d4 p q i key e v b f is s gi w1 w2 tp sh =
     let t1 : (r : ℕ) → d1.taken r ≡ d.taken r = λ r. ap (λ (t : ℕ → ℕ). t r) s.taken in
     let t3 : (r : ℕ) → d3.taken r ≡ d2.taken r = λ r. ap (λ (t : ℕ → ℕ). t r) w1.taken in
     let t4 : (r : ℕ) → d4.taken r ≡ d3.taken r = λ r. ap (λ (t : ℕ → ℕ). t r) w2.taken in
     let ne : (r : ℕ) → 1 ≤ d.taken r → r ≡ q → ⊥ = λ r h z. omega (arith, h, gi.was, t1 q, ap (λ n. d.taken n) z) in
     let pp : d4.page p ≡ b = w2.others p (ne p tp) ∙ w1.here in
     record {
-      holds = subst (λ b0. Shared (d4.page p) (d4.page q) (level_of b0) key (insert (pairs_of b0) i (k, x))) e
-          (subst (λ y. Shared y (d4.page q) (level_of b0) key (insert (pairs_of b0) i (k, x))) (sym pp) (subst (λ y. Shared b y (level_of b0) key (insert (pairs_of b0) i (k, x))) (sym w2.here) sh));
+      holds = subst (λ (v : Contents). Shared (d4.page p) (d4.page q) v.level key (insert v.pairs i e)) is
+          (subst (λ y. Shared y (d4.page q) v.level key (insert v.pairs i e)) (sym pp) (subst (λ y. Shared b y v.level key (insert v.pairs i e)) (sym w2.here) sh));
       others = λ r n h. w2.others r (ne r h) ∙ w1.others r n ∙ ap (λ (v : ℕ → List ℕ). v r) gi.page ∙ ap (λ (v : ℕ → List ℕ). v r) s.page;
       taken = λ r. omega (arith, t4 r, t3 r, gi.taken r, t1 r);
       fresh = sym (t1 q) ∙ gi.was;
       room = omega (arith, s.room, gi.room, w1.room, w2.room);
       left = omega (arith, s.left, gi.left, w1.left, w2.left);
       spends = after_still 1 2 d d1 d4 s (spends_then 0 2 2 d1 d2 d4 (omega arith) (spends_given q 0 d1 d2 gi) (spends_then 1 1 2 d2 d3 d4 (omega arith) (one_write p b d2 d3 w1) (one_write q f d3 d4 w2)));
-    }
-
--- a page that was read, changed and written
-pub entered_one : (d d1 e : PageState) (p : ℕ) (b b' : List ℕ) (F : List ℕ → List (ℕ × ℕ)) → b ≡ d.page p → Still 1 d d1 → Wrote p b' d1 e → Page b' (level_of b) (F b) → Entered 1 d e (level_of (d.page p)) p (F (d.page p)) None
-entered_one d d1 e p b b' F be s w y =
-    record {
-      holds = subst (λ b. Page (e.page p) (level_of b) (F b)) be (subst (λ b'. Page b' (level_of b) (F b)) (sym w.here) y);
-      others = λ r n t. w.others r n ∙ ap (λ (v : ℕ → List ℕ). v r) s.page;
-      taken = λ r. omega (arith, ap (λ (t : ℕ → ℕ). t r) w.taken, ap (λ (t : ℕ → ℕ). t r) s.taken);
-      fresh = tt;
-      room = omega (arith, s.room, w.room);
-      left = omega (arith, s.left, w.left);
-      spends = after_still 1 2 d d1 e s (spends_more 1 2 d1 e (omega arith) (one_write p b' d1 e w));
-    }
-
-pub built_one : (d d1 e : PageState) (p l : ℕ) (b : List ℕ) (es : List (ℕ × ℕ)) → Given p d d1 → Wrote p b d1 e → Page b l es → Built d e p l es
-built_one d d1 e p l b es gi w y =
-    record {
-      was = gi.was;
-      holds = subst (λ b. Page b l es) (sym w.here) y;
-      others = λ r n. w.others r n ∙ ap (λ (v : ℕ → List ℕ). v r) gi.page;
-      taken = λ r. omega (arith, ap (λ (t : ℕ → ℕ). t r) w.taken, gi.taken r);
-      room = omega (arith, gi.room, w.room);
-      left = omega (arith, gi.left, w.left);
-      spends = spends_then 0 1 1 d d1 e (omega arith) (spends_given p 0 d d1 gi) (one_write p b d1 e w);
     }
 
 -- over askings before it
@@ -66,10 +41,9 @@ entered_on a n n' d d1 e l l' p es es' o s le ee h t =
     }
 
 pub leaf_change : (d d1 e : PageState) (p k x i : ℕ) → Still 1 d d1 → level_of (d.page p) ≡ 0 → Found (pairs_of (d.page p)) k i →
-    Entered 1 d1 e (level_of (d1.page p)) p (set (pairs_of (d1.page p)) i ((get_or (pairs_of (d1.page p)) i (0, 0)).0, x)) None → Entered 3 d e 0 p (put_in k x (pairs_of (d.page p))) None
-leaf_change d d1 e p k x i s z f = entered_on 1 1 3 d d1 e (level_of (d1.page p)) 0 p (set (pairs_of (d1.page p)) i ((get_or (pairs_of (d1.page p)) i (0, 0)).0, x)) (put_in k x (pairs_of (d.page p))) None s
-    (ap (λ (v : ℕ → List ℕ). level_of (v p)) s.page ∙ z)
-    (ap (λ (v : ℕ → List ℕ). set (pairs_of (v p)) i ((get_or (pairs_of (v p)) i (0, 0)).0, x)) s.page ∙ ap (λ r. set (pairs_of (d.page p)) i (r, x)) f.key ∙ sym (f.puts x)) (omega arith)
+    Entered 1 d1 e (level_of (d1.page p)) p (set (pairs_of (d1.page p)) i (k, x)) None → Entered 3 d e 0 p (put_in k x (pairs_of (d.page p))) None
+leaf_change d d1 e p k x i s z f = entered_on 1 1 3 d d1 e (level_of (d1.page p)) 0 p (set (pairs_of (d1.page p)) i (k, x)) (put_in k x (pairs_of (d.page p))) None s
+    (ap (λ (v : ℕ → List ℕ). level_of (v p)) s.page ∙ z) (ap (λ (v : ℕ → List ℕ). set (pairs_of (v p)) i (k, x)) s.page ∙ sym (f.puts x)) (omega arith)
 
 pub leaf_enter : (d d1 e : PageState) (p k x i : ℕ) (o : Option (ℕ × ℕ)) → Still 1 d d1 → level_of (d.page p) ≡ 0 → Missing (pairs_of (d.page p)) k i →
     Entered 2 d1 e (level_of (d1.page p)) p (insert (pairs_of (d1.page p)) i (k, x)) o → Entered 3 d e 0 p (put_in k x (pairs_of (d.page p))) o

@@ -7,7 +7,7 @@ use Rattle.tree.specs.Tree.{joined, pairs_at, pages_at, occ, Kids, Well}
 use Rattle.tree.specs.Grow.{Holds}
 use Rattle.tree.specs.Shrink.{gone}
 use Rattle.node.proofs.Pairs.{up-++}
-use Rattle.node.proofs.Places.{pairs_length}
+use Rattle.node.proofs.Words.{pairs_length}
 use Rattle.tree.proofs.Kids.{kids-++, joined_at, occ-++, well_node}
 use Rattle.tree.proofs.Down.{kids_of}
 use Rattle.tree.proofs.Alike.{AlikeAll, alike_all}

@@ -1,5 +1,6 @@
 -- The state of a store of pages, and what each of its acts does to it.
-use Rattle.std.specs.Prelude.{◌≡◌, ℕ, ◌+◌, ◌-◌, ◌≤◌, cond, List, ◌==◌, ◌≢◌}
+use Rattle.std.specs.Borrow.{GName}
+use Rattle.std.specs.Prelude.{◌≡◌, ℕ, ◌+◌, ◌-◌, ◌≤◌, Bool, true, cond, List, ◌==◌, ◌≢◌}
 
 -- page: what each page holds
 -- taken: 1 for a page that was handed out, else 0
@@ -57,3 +58,11 @@ pub record Freed (p : ℕ) (d e : PageState) : Type 0 where
   pub left : e.left ≡ d.left
   pub marked : 1 ≤ e.dirty p
   pub spends : Spends (1 - d.dirty p) d e
+
+-- s may have come from a store, and the power is still there
+abbrev pub Whole : {S : Type 0} → (S → Bool → S → Type 0) → S → Type 0
+Whole {S} onto s = (a : S) × onto a true s
+
+-- what every call of a store passes on: t may have come from wherever s may have, where ok says whether the power is still there, and what s was lent t is lent
+abbrev pub Passes : {S : Type 0} → (S → Bool → S → Type 0) → (S → List GName) → Bool → S → S → Type 0
+Passes {S} onto tie ok s t = ((a : S) → onto a true s → onto a ok t) × (tie t ≡ tie s)

@@ -3,11 +3,17 @@
 
 pub mod count;
 mod insert;
-mod pages;
+mod page_store;
 mod remove;
 mod search;
 
-pub use insert::{AfterPut, put};
-pub use pages::{Gone, PageStore};
-pub use remove::{AfterDrop, drop};
-pub use search::{get, next};
+pub use page_store::PageStore;
+pub use pages::Gone;
+
+// Where a tree stands: its root's page and its height.
+#[derive(Clone, Copy, Debug, PartialEq, Eq)]
+#[repr(C)]
+pub struct TreeRoot {
+    pub page: u64,
+    pub height: u64,
+}

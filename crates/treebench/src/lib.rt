@@ -3,14 +3,14 @@
 #![tactic(auto)]
 
 ghost use Rattle.std.specs.Prelude.{◌≡◌, ℕ, ◌-◌, ◌*◌, ◌<◌, ◌≤◌, length};
-ghost use Rattle.node.specs.Layout.{page_words};
 ghost use Rattle.node.specs.Pairs.{find};
+ghost use Rattle.pages.specs.Pages.{page_words};
 ghost use Rattle.pagemem.specs.Memory.{Good, pairs_in};
 ghost use Rattle.treebench.specs.Bench.{word_or};
 
-use pagemem::TreeRoot;
+use pagemem::{MemTree, TreeRoot};
 
-// What tree_put answers where too few pages are free.
+// What tree_put answers where too few pages are free. C has no Option: a number tells it.
 const REFUSED: u64 = 2;
 
 // An empty tree in the lent memory.
@@ -19,7 +19,7 @@ pub extern "C" fn tree_set_up(marks: &mut [u64], words: &mut [u64], root: &mut T
     requires { (0 < length marks.old) × ((length marks.old ≤ 4294967297) × (page_words * (length marks.old - 1) ≤ length words.old)) }
     ensures { Good marks.new words.new root.new }
 {
-    *root = pagemem::set_up(marks, words);
+    *root = MemTree::set_up(marks, words).root();
 }
 
 // The word at k, or the largest word if there is none.
@@ -29,10 +29,8 @@ pub extern "C" fn tree_get(marks: &mut [u64], words: &mut [u64], root: &TreeRoot
     ensures got { result ≡ word_or (find k (pairs_in words.old root.now)) }
     ensures good { Good marks.new words.new root.now }
 {
-    match pagemem::get(marks, words, *root, k) {
-        Some(x) => x,
-        None => u64::MAX,
-    }
+    let mut tree = MemTree::open(marks, words, *root);
+    tree.get(k).unwrap_or(u64::MAX)
 }
 
 // Puts the pair (k, x): 1 if the key is new, 0 if it is not, 2 if too few pages are free.
@@ -47,13 +45,10 @@ pub extern "C" fn tree_put(
     requires { Good marks.old words.old root.old }
     ensures { Good marks.new words.new root.new }
 {
-    match pagemem::put(marks, words, *root, k, x) {
-        Some(p) => {
-            *root = p.tree;
-            p.new as u64
-        }
-        None => REFUSED,
-    }
+    let mut tree = MemTree::open(marks, words, *root);
+    let new = tree.put(k, x);
+    *root = tree.root();
+    new.map_or(REFUSED, u64::from)
 }
 
 // Drops the pair at k: 1 if it was there, else 0.
@@ -67,7 +62,8 @@ pub extern "C" fn tree_drop(
     requires { Good marks.old words.old root.old }
     ensures { Good marks.new words.new root.new }
 {
-    let d = pagemem::drop(marks, words, *root, k);
-    *root = d.tree;
-    d.was as u64
+    let mut tree = MemTree::open(marks, words, *root);
+    let was = tree.drop(k);
+    *root = tree.root();
+    u64::from(was)
 }

@@ -11,4 +11,4 @@ pub returns : goal.returns
 returns c =
     let m = c.args.self.now in let e = c.take_free.ensures in
     let t = taken m.marks.now c.take_free.new.marks m.words.now c.take_free.result (fits_of true m.marks.now m.words.now c.requires.whole.1) c.requires.asks.1 e.near e.was e.is in
-    record { got = t.0; onto = λ a h. kept refl t.1; tied = search rules }
+    record { got = t.0; passed = ((λ a h. kept refl t.1), search rules) }

@@ -12,4 +12,4 @@ pub returns : goal.returns
 returns c =
     let m = c.args.self.now in
     let t = given_back m.marks.now c.give_back.new.marks m.words.now c.args.p (fits_of true m.marks.now m.words.now c.requires.whole.1) (mark_near m.marks.now c.args.p (omega (arith, c.requires.asks.0))) c.requires.asks.0 c.give_back.ensures in
-    record { got = t.0; onto = λ a h. kept refl t.1; tied = search rules }
+    record { got = t.0; passed = ((λ a h. kept refl t.1), search rules) }

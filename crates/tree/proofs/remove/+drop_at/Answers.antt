@@ -15,8 +15,8 @@ leaf_drop-requires g t c =
         (
           mine_here d c.args.l c.args.p c.requires.asks.1.0,
           (
-            asks_leaf d c.args.l c.args.p c.args.k c.if-l-eq0.true c.requires.asks.0,
-            leaf_level d c.args.l c.args.p c.args.k c.if-l-eq0.true c.requires.asks.0,
+            (asks_leaf d c.args.l c.args.p c.args.k c.if-l-eq0.true c.requires.asks.0).0,
+            ((asks_leaf d c.args.l c.args.p c.args.k c.if-l-eq0.true c.requires.asks.0).1, leaf_level d c.args.l c.args.p c.args.k c.if-l-eq0.true c.requires.asks.0),
           ),
         ),
       ));
@@ -32,8 +32,7 @@ returns-then-l-eq0 g t c =
             shrunk_more 1 (4 * c.args.l + 1) d e c.args.l c.args.p c.args.k r.thin (omega arith) (leaf_shrunk 1 d e c.args.l c.args.p c.args.k r.thin c.if-l-eq0.true h.0),
             h.1 ∙ ap (λ es. is_some (find c.args.k es)) (sym (leaf_pairs d.page c.args.l c.args.p c.if-l-eq0.true)),
           )) c.leaf_drop.ensures.got);
-      onto = search rules;
-      tied = search rules;
+      passed = search rules;
     }
 
 pub find_way-requires : goal.find_way-requires
@@ -49,20 +48,20 @@ pub drop_at-requires : goal.drop_at-requires
 drop_at-requires g t c κs within =
     let d = g.S.PageStore.state c.args.s.now in let e = g.S.PageStore.state c.find_way.new.s in
     let n : 0 < c.args.l = omega (arith, c.if-l-eq0.false) in
-    let w = c.in_ok-w.ensures.got in
-    let b = below d e c.args.l (c.args.l - 1) c.args.p c.in_ok-w.w.down c.args.k c.in_ok-w.w.at (omega arith) w.3 c.requires.asks.0 c.requires.asks.1.0 w.0 w.1 in
-    (omega (arith, c.decreases), (within, ((b.asks, (b.mine, (once_still 1 d e w.3 c.requires.asks.1.1.0, (kid_wide d e c.args.l (c.args.l - 1) c.args.p c.in_ok-w.w.down c.args.k c.in_ok-w.w.at (omega arith) w.3 c.requires.asks.0 w.0 w.1, omega (arith, w.3.left, c.requires.asks.1.1.1.1))))), (omega (arith, w.3.spare, c.requires.budget), search rules))))
+    let w = c.in_ok-w.ensures.got.0 in let still = c.in_ok-w.ensures.got.1 in
+    let b = below d e c.args.l (c.args.l - 1) c.args.p c.in_ok-w.w.down c.args.k c.in_ok-w.w.at (omega arith) still c.requires.asks.0 c.requires.asks.1.0 w.0 w.1 in
+    (omega (arith, c.decreases), (within, ((b.asks, (b.mine, (once_still 1 d e still c.requires.asks.1.1.0, (kid_wide d e c.args.l (c.args.l - 1) c.args.p c.in_ok-w.w.down c.args.k c.in_ok-w.w.at (omega arith) still c.requires.asks.0 w.0 w.1, omega (arith, still.left, c.requires.asks.1.1.1.1))))), (omega (arith, still.spare, c.requires.budget), search rules))))
 
 pub mend-requires : goal.mend-requires
 mend-requires g t c =
     record {
       asks = (let d = g.S.PageStore.state c.args.s.now in let d1 = g.S.PageStore.state c.find_way.new.s in let e1 = g.S.PageStore.state c.drop_at.new.s in
           let n : 0 < c.args.l = omega (arith, c.if-l-eq0.false) in
-          let w = c.in_ok-w.ensures.got in let r = c.in_ok-t.ensures.got in (
-            thin_mends d d1 e1 c.args.l (c.args.l - 1) c.args.p c.in_ok-w.w.down c.args.k c.in_ok-w.w.at c.saturating_sub.result (4 * (c.args.l - 1) + 1) c.in_ok-t.t.thin (omega arith) c.if-t.true w.3 c.requires.asks.0 c.requires.asks.1.0 c.requires.asks.1.1.0 w.0 w.1 r.0 c.saturating_sub.ensures (c.requires.asks.1.1.1.0 n),
-            omega (arith, r.0.left, w.3.left, c.requires.asks.1.1.1.1),
+          let w = c.in_ok-w.ensures.got.0 in let still = c.in_ok-w.ensures.got.1 in let r = c.in_ok-t.ensures.got in (
+            thin_mends d d1 e1 c.args.l (c.args.l - 1) c.args.p c.in_ok-w.w.down c.args.k c.in_ok-w.w.at c.saturating_sub.result (4 * (c.args.l - 1) + 1) c.in_ok-t.t.thin (omega arith) c.if-t.true still c.requires.asks.0 c.requires.asks.1.0 c.requires.asks.1.1.0 w.0 w.1 r.0 c.saturating_sub.ensures (c.requires.asks.1.1.1.0 n),
+            omega (arith, r.0.left, still.left, c.requires.asks.1.1.1.1),
           ));
-      budget = omega (arith, c.in_ok-t.ensures.got.0.spends.spare, c.in_ok-w.ensures.got.3.spare, c.requires.budget, c.if-l-eq0.false);
+      budget = omega (arith, c.in_ok-t.ensures.got.0.spends.spare, c.in_ok-w.ensures.got.1.spare, c.requires.budget, c.if-l-eq0.false);
       whole = search rules;
     }
 
@@ -71,13 +70,12 @@ returns-then-t g t c =
     record {
       got = (let d = g.S.PageStore.state c.args.s.now in let d1 = g.S.PageStore.state c.find_way.new.s in let e1 = g.S.PageStore.state c.drop_at.new.s in let e = g.S.PageStore.state c.mend.new.s in
           let n : 0 < c.args.l = omega (arith, c.if-l-eq0.false) in
-          let w = c.in_ok-w.ensures.got in let r = c.in_ok-t.ensures.got in
-          let b = below d d1 c.args.l (c.args.l - 1) c.args.p c.in_ok-w.w.down c.args.k c.in_ok-w.w.at (omega arith) w.3 c.requires.asks.0 c.requires.asks.1.0 w.0 w.1 in (
-            thin_mended d d1 e1 e c.args.l (c.args.l - 1) c.args.p c.in_ok-w.w.down c.args.k c.in_ok-w.w.at c.saturating_sub.result (4 * (c.args.l - 1) + 1) 3 (4 * c.args.l + 1) c.in_ok-t.t.thin c.in_ok-thin.thin (omega arith) (omega arith) c.if-t.true w.3 c.requires.asks.0 c.requires.asks.1.0 c.requires.asks.1.1.0 w.0 w.1 r.0 c.saturating_sub.ensures (c.requires.asks.1.1.1.0 n) c.in_ok-thin.ensures.got,
+          let w = c.in_ok-w.ensures.got.0 in let still = c.in_ok-w.ensures.got.1 in let r = c.in_ok-t.ensures.got in
+          let b = below d d1 c.args.l (c.args.l - 1) c.args.p c.in_ok-w.w.down c.args.k c.in_ok-w.w.at (omega arith) still c.requires.asks.0 c.requires.asks.1.0 w.0 w.1 in (
+            thin_mended d d1 e1 e c.args.l (c.args.l - 1) c.args.p c.in_ok-w.w.down c.args.k c.in_ok-w.w.at c.saturating_sub.result (4 * (c.args.l - 1) + 1) 3 (4 * c.args.l + 1) c.in_ok-t.t.thin c.in_ok-thin.thin (omega arith) (omega arith) c.if-t.true still c.requires.asks.0 c.requires.asks.1.0 c.requires.asks.1.1.0 w.0 w.1 r.0 c.saturating_sub.ensures (c.requires.asks.1.1.1.0 n) c.in_ok-thin.ensures.got,
             r.1 ∙ ap (λ o. is_some o) (sym b.finds),
           ));
-      onto = search rules;
-      tied = search rules;
+      passed = search rules;
     }
 
 pub returns : goal.returns
@@ -85,11 +83,10 @@ returns g t c =
     record {
       got = (let d = g.S.PageStore.state c.args.s.now in let d1 = g.S.PageStore.state c.find_way.new.s in let e1 = g.S.PageStore.state c.drop_at.new.s in
           let n : 0 < c.args.l = omega (arith, c.if-l-eq0.false) in
-          let w = c.in_ok-w.ensures.got in let r = c.in_ok-t.ensures.got in
-          let b = below d d1 c.args.l (c.args.l - 1) c.args.p c.in_ok-w.w.down c.args.k c.in_ok-w.w.at (omega arith) w.3 c.requires.asks.0 c.requires.asks.1.0 w.0 w.1 in (
-            not_thin d d1 e1 c.args.l (c.args.l - 1) c.args.p c.in_ok-w.w.down c.args.k c.in_ok-w.w.at (4 * (c.args.l - 1) + 1) (4 * c.args.l + 1) c.in_ok-t.t.thin (omega arith) (omega arith) c.if-t.false w.3 c.requires.asks.0 c.requires.asks.1.0 c.requires.asks.1.1.0 w.0 w.1 r.0,
+          let w = c.in_ok-w.ensures.got.0 in let still = c.in_ok-w.ensures.got.1 in let r = c.in_ok-t.ensures.got in
+          let b = below d d1 c.args.l (c.args.l - 1) c.args.p c.in_ok-w.w.down c.args.k c.in_ok-w.w.at (omega arith) still c.requires.asks.0 c.requires.asks.1.0 w.0 w.1 in (
+            not_thin d d1 e1 c.args.l (c.args.l - 1) c.args.p c.in_ok-w.w.down c.args.k c.in_ok-w.w.at (4 * (c.args.l - 1) + 1) (4 * c.args.l + 1) c.in_ok-t.t.thin (omega arith) (omega arith) c.if-t.false still c.requires.asks.0 c.requires.asks.1.0 c.requires.asks.1.1.0 w.0 w.1 r.0,
             r.1 ∙ ap (λ o. is_some o) (sym b.finds),
           ));
-      onto = search rules;
-      tied = search rules;
+      passed = search rules;
     }

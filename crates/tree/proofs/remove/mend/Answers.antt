@@ -1,38 +1,21 @@
-use Rattle.std.proofs.Common.{ℕ, ap, arith, rules}
-use Rattle.tree.proofs.Amends.{near_read, mend_all, mend_here}
+use Rattle.std.proofs.Common.{ℕ, ◌+◌, length, get_or, ap, ◌∙◌, arith}
+use Rattle.node.proofs.Words.{pairs_length}
+use Rattle.tree.proofs.Amends.{mend_all}
 use Rattle.tree.proofs.remove.mend.Goals as goal
 
-pub join_pages-requires : goal.join_pages-requires
-join_pages-requires g c =
-    let st = g.S.PageStore.state in let r = c.in_ok-read.ensures.got in
-    record {
-      asks = (
-        (near_read (st c.args.s.now) (st c.read.new.self) c.args.l c.args.p c.args.j c.entry-a.result.1 c.entry-c.result.1 c.read.new.into r.0 r.1 c.requires.asks.0
-            (ap (λ (e : ℕ × ℕ). e.1) c.entry-a.ensures) (ap (λ (e : ℕ × ℕ). e.1) c.entry-c.ensures)).2,
-        omega (arith, r.1.left, c.requires.asks.1),
-      );
-      budget = omega (arith, r.1.spare, c.requires.budget);
-      whole = search rules;
-    }
+pub entry-c-requires : goal.entry-c-requires
+entry-c-requires g c =
+    let m = c.requires.asks.0 in
+    omega (arith, ap (λ v. length v.pairs) c.in_ok-node.ensures.got.0, pairs_length ((g.S.PageStore.state c.args.s.now).page c.args.p) m.is, m.two)
 
-pub write-requires : goal.write-requires
-write-requires g c =
-    let st = g.S.PageStore.state in let r = c.in_ok-read.ensures.got in let m = c.in_ok-more.ensures.got in
-    record {
-      asks = (
-        mend_here (st c.args.s.now) (st c.read.new.self) (st c.join_pages.new.s) c.args.l c.args.p c.args.j c.entry-a.result.1 c.entry-c.result.1 c.in_ok-more.more c.read.new.into r.0 r.1 c.requires.asks.0
-            (ap (λ (e : ℕ × ℕ). e.1) c.entry-a.ensures) (ap (λ (e : ℕ × ℕ). e.1) c.entry-c.ensures) m,
-        (omega (arith, r.1.spare, m.spends.spare, c.requires.budget), c.amend.ensures.is.0),
-      );
-      whole = search rules;
-    }
+pub amend-requires : goal.amend-requires
+amend-requires g c =
+    let m = c.requires.asks.0 in
+    omega (arith, ap (λ v. length v.pairs) c.in_ok-node.ensures.got.0, pairs_length ((g.S.PageStore.state c.args.s.now).page c.args.p) m.is, m.two)
 
-pub returns : goal.returns
-returns g c =
-    let st = g.S.PageStore.state in let r = c.in_ok-read.ensures.got in
-    record {
-      got = mend_all (st c.args.s.now) (st c.read.new.self) (st c.join_pages.new.s) (st c.write.new.self) c.args.l c.args.p c.args.j c.entry-a.result.1 c.entry-c.result.1 c.count.result c.in_ok-more.more c.read.new.into c.amend.new.page
-          r.0 r.1 c.requires.asks.0 (ap (λ (e : ℕ × ℕ). e.1) c.entry-a.ensures) (ap (λ (e : ℕ × ℕ). e.1) c.entry-c.ensures) c.in_ok-more.ensures.got c.amend.ensures c.count.ensures c.in_ok-write.ensures.got;
-      onto = search rules;
-      tied = search rules;
-    }
+pub returns-clause-got : goal.returns-clause-got
+returns-clause-got g c =
+    let st = g.S.PageStore.state in let r = c.in_ok-node.ensures.got in
+    mend_all (st c.args.s.now) (st c.read_node.new.s) (st c.join_pages.new.s) (st c.write.new.self) c.args.l c.args.p c.args.j c.entry-a.result.1 c.entry-c.result.1 c.len.result c.in_ok-more.more c.in_ok-node.node c.amend.new.self c.words.result.now
+    r.0 r.1 c.requires.asks.0 (ap (λ (e : ℕ × ℕ). e.1) (c.entry-a.ensures ∙ ap (λ v. get_or v.pairs c.args.j (0, 0)) r.0)) (ap (λ (e : ℕ × ℕ). e.1) (c.entry-c.ensures ∙ ap (λ v. get_or v.pairs (c.args.j + 1) (0, 0)) r.0))
+    c.in_ok-more.ensures.got c.amend.ensures c.words.ensures c.len.ensures.is c.in_ok-write.ensures.got
