@@ -115,6 +115,7 @@ impl<'a> FramesMut<'a> {
         requires new { slot_of (cache_in self.old) p ≡ None }
         requires room { (cache_in self.old).count < 64 }
         ensures cache { cache_in self.new ≡ entered (filled (cache_in self.old) slot p words.now) slot }
+        ensures stands { Stands (cache_in self.new) p slot }
         ensures shown { (s : ℕ → List ℕ) → Clean (cache_in self.old) s → shown_by (cache_in self.new) s ≡ at p words.now (shown_by (cache_in self.old) s) }
         ensures clean { (s : ℕ → List ℕ) → Clean (cache_in self.old) s → Clean (cache_in self.new) s }
         ensures named { SameLoan self.old self.new }

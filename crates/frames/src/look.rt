@@ -1,8 +1,8 @@
 // The frames as they are read: where a page stands, which frame leaves next, and what the batch is.
 ghost use Rattle.std.specs.List.{range_with_len};
-ghost use Rattle.std.specs.Prelude.{◌≡◌, ◌+◌, ◌%◌, ◌<◌, ◌≤◌, ◌↔◌, find, map, true, length, is_some, IfSome, IsTrue, position, ◌==◌};
+ghost use Rattle.std.specs.Prelude.{◌≡◌, ◌+◌, ◌%◌, ◌<◌, ◌≤◌, ◌↔◌, find, map, true, length, is_some, IfSome, IsTrue, position, slice_index, ◌==◌};
 ghost use Rattle.frames.specs.Layout.{cache_of, frame_in};
-ghost use Rattle.frames.specs.Frames.{Sound, Stands, Idle, Chosen, mark_in, pins_in, entry_in, batch_page, slot_of, pinned};
+ghost use Rattle.frames.specs.Frames.{Sound, Stands, Idle, Chosen, mark_in, pins_in, entry_in, batch_page, batch_pages, slot_of, pinned};
 ghost use Rattle.frames.specs.Columns.{place_of, is_idle};
 
 use crate::layout;
@@ -70,6 +70,7 @@ impl<'a> Frames<'a> {
     pub fn batch_len(&self) -> usize
         ensures count { result ≡ self.now.count }
         ensures few { result ≤ 64 }
+        ensures pages { result ≡ length (batch_pages self.now) }
     {
         layout::count(self.part)
     }
@@ -85,7 +86,8 @@ impl<'a> Frames<'a> {
     /// The page at a place of the batch.
     pub fn batch_page(&self, place: usize) -> u64
         requires { place < self.now.count }
-        ensures { result ≡ batch_page self.now place }
+        ensures page { result ≡ batch_page self.now place }
+        ensures listed { result ≡ slice_index (batch_pages self.now) place }
     {
         layout::word(self.part, Column::Pages, self.batch_slot(place))
     }
