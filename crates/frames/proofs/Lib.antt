@@ -1,4 +1,5 @@
 pub mod Batch
+pub mod Turns
 pub mod Changed
 mod Words
 pub mod Slots

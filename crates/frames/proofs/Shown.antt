@@ -164,6 +164,9 @@ module _ (fs : List ℕ) (s : ℕ → List ℕ) where
 pub entered_slots : (c : Cache) (i p : ℕ) → slot_of (enter c i) p ≡ slot_of c p
 entered_slots c i p = elim (eqb (mark_in c i) 0) as (λ b. slot_of (cond b (list c i) c) p ≡ slot_of c p) [ true ↦ refl | false ↦ refl ]
 
+pub entered_page : (c : Cache) (i j : ℕ) → page_in (enter c i) j ≡ page_in c j
+entered_page c i j = elim (eqb (mark_in c i) 0) as (λ b. page_in (cond b (list c i) c) j ≡ page_in c j) [ true ↦ refl | false ↦ refl ]
+
 -- and changes none
 module _ (c : Cache) (s : ℕ → List ℕ) (i : ℕ) where
   pub entered_shown : shown_by (enter c i) s ≡ shown_by c s

@@ -105,7 +105,7 @@ place_none (x ∷ xs) p n (suc i) l = place_none xs p (rest_none x p xs n) i (om
 
 -- the frame of page p
 module _ (ps : List ℕ) (p : ℕ) where
-  in_use : 0 < p → slot_among ps p ≡ place_in ps p
+  pub in_use : 0 < p → slot_among ps p ≡ place_in ps p
   unfolding slot_among
   in_use h = rw (ne_eqb p 0 (omega arith))
 

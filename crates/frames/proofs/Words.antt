@@ -3,6 +3,9 @@ use Rattle.std.proofs.Common.{◌≡◌, ℕ, ◌+◌, ◌-◌, ◌*◌, ◌<◌
 use borrow.Rule.Slice.PartMut.{put_mid}
 use lib.Seq.{take-set-lt}
 use Rattle.std.proofs.lemmas.List.{take-set-le, drop-set-lt, drop-set-add, get_or-set_same, get_or-set_other, get_or-take, get_or-drop, take-replicate, drop-replicate, get_or-replicate, length-replicate, places, same_lists}
+use Rattle.frames.specs.declared.layout.Column.{Column}
+use Rattle.frames.specs.declared.layout.Column.TheVariants.{Pages, Marks, Pins}
+use Rattle.frames.specs.Columns.{start_of, column_in, with_column}
 use Rattle.frames.specs.Layout.{Cache, Sized, cache_of, frame_in, placed, with_frames, with_pages, with_marks, with_pins, with_entries, with_count, with_hand, cleared}
 
 same : {f p m n e f' p' m' n' e' : List ℕ} {k h k' h' : ℕ} → f ≡ f' → p ≡ p' → m ≡ m' → n ≡ n' → e ≡ e' → k ≡ k' → h ≡ h' →
@@ -150,25 +153,24 @@ module _ (a k : ℕ) (xs ys : List ℕ) (fits : a + k ≤ length xs) (long : len
 front : (n : ℕ) (xs : List ℕ) (s m : ℕ) → s + m ≤ n → take m (drop s (take n xs)) ≡ take m (drop s xs)
 front n xs s m h = same_lists _ _ (search (rules, places)) (λ j d l. grind (arith, places))
 
-module _ (part : List ℕ) (i k : ℕ) (sized : Sized part) (h : i < 120) (e : k ≡ 512) where
-  pub frame_set : (w : List ℕ) → length w ≡ 512 → cache_of (put_mid (512 * i) k part w) ≡ with_frames (cache_of part) (placed (cache_of part).frames i w)
+module _ (part : List ℕ) (i : ℕ) (sized : Sized part) (h : i < 120) where
+  pub frame_set : (w : List ℕ) → length w ≡ 512 → cache_of (put_mid (512 * i) 512 part w) ≡ with_frames (cache_of part) (placed (cache_of part).frames i w)
   unfolding cache_of placed
   frame_set w l =
       let a = 512 * i in
-      let fits : a + k ≤ length part = omega arith in
-      let long : length w ≡ k = omega arith in
+      let fits : a + 512 ≤ length part = omega arith in
       same
-      (part_around a k part w fits long 61440 (omega arith) ∙ ap (λ n. put_mid a n (take 61440 part) w) e)
-      (part_above a k part w fits long 61440 120 (omega arith))
-      (part_above a k part w fits long 61560 120 (omega arith))
-      (part_above a k part w fits long 61680 120 (omega arith))
-      (part_above a k part w fits long 61800 64 (omega arith))
-      (word_above a k part w fits long 61864 (omega arith))
-      (word_above a k part w fits long 61865 (omega arith))
+      (part_around a 512 part w fits l 61440 (omega arith))
+      (part_above a 512 part w fits l 61440 120 (omega arith))
+      (part_above a 512 part w fits l 61560 120 (omega arith))
+      (part_above a 512 part w fits l 61680 120 (omega arith))
+      (part_above a 512 part w fits l 61800 64 (omega arith))
+      (word_above a 512 part w fits l 61864 (omega arith))
+      (word_above a 512 part w fits l 61865 (omega arith))
 
-  pub frame_read : take k (drop (512 * i) part) ≡ frame_in (cache_of part).frames i
+  pub frame_read : take 512 (drop (512 * i) part) ≡ frame_in (cache_of part).frames i
   unfolding cache_of frame_in
-  frame_read = ap (λ n. take n (drop (512 * i) part)) e ∙ sym (front 61440 part (512 * i) 512 (omega arith))
+  frame_read = sym (front 61440 part (512 * i) 512 (omega arith))
 
 noughts : (m s n : ℕ) → s + m ≤ n → take m (drop s (replicate n 0)) ≡ replicate {A = ℕ} m 0
 noughts m s n h = ap (λ (xs : List ℕ). take m xs) (drop-replicate s n 0) ∙ take-replicate m (n - s) 0 (omega arith)
@@ -214,3 +216,15 @@ module _ (part w : List ℕ) (sized : Sized part) where
       (row 64 61800 (omega arith) (omega arith))
       (word 61864 (omega arith) (omega arith))
       (word 61865 (omega arith) (omega arith))
+
+-- a column read, and written
+module _ (part : List ℕ) (i : ℕ) (h : i < 120) where
+  pub column_read : (k : Column) → get_or part (start_of k + i) 0 ≡ get_or (column_in k (cache_of part)) i 0
+  column_read Pages = page_read part i h
+  column_read Marks = mark_read part i h
+  column_read Pins = pins_read part i h
+
+  pub column_set : (k : Column) (v : ℕ) → cache_of (set part (start_of k + i) v) ≡ with_column k (cache_of part) (set (column_in k (cache_of part)) i v)
+  column_set Pages v = page_set part i v h
+  column_set Marks v = mark_set part i v h
+  column_set Pins v = pins_set part i v h

@@ -1,2 +1,4 @@
 pub mod Layout
 pub mod Frames
+pub mod Columns
+pub mod Changes

@@ -1,8 +1,13 @@
 // Where each word of a part stands. Nothing else knows these numbers.
-ghost use Rattle.std.specs.Prelude.{◌≡◌, ◌+◌, ◌*◌, ◌<◌, length, replicate, slice_index, slice_set};
-ghost use Rattle.frames.specs.Layout.{Sized, cache_of, frame_in, placed, with_frames, with_pages, with_marks, with_pins, with_entries, with_count, with_hand, cleared};
+//
+// A step writes several of these words, and the table is in order only after the last of them. So the functions that write take the
+// words as they are, and FramesMut, whose table is always in order, calls them.
+ghost use Rattle.std.specs.Prelude.{◌≡◌, ◌*◌, ◌<◌, length, replicate, slice_index, slice_set};
+ghost use Rattle.frames.specs.Layout.{Sized, cache_of, frame_in, placed, with_frames, with_marks, with_entries, with_count, with_hand, cleared};
+ghost use Rattle.frames.specs.Columns.{start_of, column_in, with_column};
 
-pub const PAGE_WORDS: usize = 512;
+use crate::slot::Slot;
+use pages::PAGE_WORDS;
 
 pub const FRAME_COUNT: usize = 120;
 
@@ -24,68 +29,68 @@ const COUNT: usize = ENTRIES + BATCH;
 
 const HAND: usize = COUNT + 1;
 
-// The page that stands in a frame; 0 where the frame is free.
-pub fn page_in(part: &[u64], slot: usize) -> u64
-    requires { (Sized part.now) × (slot < 120) }
-    ensures { result ≡ slice_index (cache_of part.now).pages slot }
-{
-    part[PAGES + slot]
+/// What is noted of each frame: the page that stands in it, 0 where it is free; whether it is changed, 0 or its place in the batch and
+/// one; and how often it is pinned.
+#[derive(Clone, Copy)]
+pub enum Column {
+    Pages,
+    Marks,
+    Pins,
 }
 
-pub fn put_page(part: &mut [u64], slot: usize, p: u64)
-    requires { (Sized part.old) × (slot < 120) }
-    ensures { cache_of part.new ≡ with_pages (cache_of part.old) (slice_set (cache_of part.old).pages slot p) }
-{
-    part[PAGES + slot] = p;
+impl Column {
+    fn start(self) -> usize
+        ensures { result ≡ start_of self }
+    {
+        match self {
+            Column::Pages => PAGES,
+            Column::Marks => MARKS,
+            Column::Pins => PINS,
+        }
+    }
 }
 
-// Whether a frame is changed: 0, or its place in the batch and one.
-pub fn mark_of(part: &[u64], slot: usize) -> u64
-    requires { (Sized part.now) × (slot < 120) }
-    ensures { result ≡ slice_index (cache_of part.now).marks slot }
+/// What a column has for a frame.
+pub fn word(part: &[u64], column: Column, slot: Slot) -> u64
+    requires { Sized part.now }
+    ensures { result ≡ slice_index (column_in column (cache_of part.now)) slot }
 {
-    part[MARKS + slot]
+    part[column.start() + slot.number()]
 }
 
-pub fn put_mark(part: &mut [u64], slot: usize, mark: u64)
-    requires { (Sized part.old) × (slot < 120) }
-    ensures { cache_of part.new ≡ with_marks (cache_of part.old) (slice_set (cache_of part.old).marks slot mark) }
+pub fn put(part: &mut [u64], column: Column, slot: Slot, word: u64)
+    requires { Sized part.old }
+    ensures cache { cache_of part.new ≡ with_column column (cache_of part.old) (slice_set (column_in column (cache_of part.old)) slot word) }
+    ensures low { slot < 120 }
 {
-    part[MARKS + slot] = mark;
+    part[column.start() + slot.number()] = word;
 }
 
-// How often a frame is pinned.
-pub fn pins_of(part: &[u64], slot: usize) -> u64
-    requires { (Sized part.now) × (slot < 120) }
-    ensures { result ≡ slice_index (cache_of part.now).pins slot }
+/// The page of each frame.
+pub fn pages(part: &[u64]) -> &[u64]
+    requires { Sized part.now }
+    ensures { result.now ≡ (cache_of part.now).pages }
 {
-    part[PINS + slot]
+    &part[PAGES..MARKS]
 }
 
-pub fn put_pins(part: &mut [u64], slot: usize, n: u64)
-    requires { (Sized part.old) × (slot < 120) }
-    ensures { cache_of part.new ≡ with_pins (cache_of part.old) (slice_set (cache_of part.old).pins slot n) }
-{
-    part[PINS + slot] = n;
-}
-
-// The frame at a place of the batch.
-pub fn entry_at(part: &[u64], place: usize) -> u64
+/// The frame at a place of the batch.
+pub fn entry(part: &[u64], place: usize) -> u64
     requires { (Sized part.now) × (place < 64) }
     ensures { result ≡ slice_index (cache_of part.now).entries place }
 {
     part[ENTRIES + place]
 }
 
-pub fn put_entry(part: &mut [u64], place: usize, slot: u64)
+pub fn put_entry(part: &mut [u64], place: usize, slot: Slot)
     requires { (Sized part.old) × (place < 64) }
     ensures { cache_of part.new ≡ with_entries (cache_of part.old) (slice_set (cache_of part.old).entries place slot) }
 {
-    part[ENTRIES + place] = slot;
+    part[ENTRIES + place] = slot.number() as u64;
 }
 
-// How many frames the batch has.
-pub fn count_of(part: &[u64]) -> usize
+/// How many frames the batch has.
+pub fn count(part: &[u64]) -> usize
     requires { Sized part.now }
     ensures { result ≡ (cache_of part.now).count }
 {
@@ -99,54 +104,50 @@ pub fn put_count(part: &mut [u64], n: usize)
     part[COUNT] = n as u64;
 }
 
-// The frame that is next to leave.
-pub fn hand_of(part: &[u64]) -> usize
+/// The frame that is next to leave.
+pub fn hand(part: &[u64]) -> usize
     requires { Sized part.now }
     ensures { result ≡ (cache_of part.now).hand }
 {
     part[HAND] as usize
 }
 
-pub fn put_hand(part: &mut [u64], slot: usize)
+pub fn put_hand(part: &mut [u64], slot: Slot)
     requires { Sized part.old }
     ensures { cache_of part.new ≡ with_hand (cache_of part.old) slot }
 {
-    part[HAND] = slot as u64;
+    part[HAND] = slot.number() as u64;
 }
 
-pub fn put_frame(part: &mut [u64], slot: usize, words: &[u64])
-    requires { (Sized part.old) × ((slot < 120) × (length words.now ≡ 512)) }
-    ensures { cache_of part.new ≡ with_frames (cache_of part.old) (placed (cache_of part.old).frames slot words.now) }
-{
-    let start = PAGE_WORDS * slot;
-    let frame = &mut part[start..start + PAGE_WORDS];
-    frame.copy_from_slice(words);
-}
-
-// The words of a frame, where they stand.
-pub fn frame(part: &[u64], slot: usize) -> &[u64]
-    requires { (Sized part.now) × (slot < 120) }
+/// The words of a frame, where they stand; they do, whether or not the table is in order.
+pub fn frame(part: &[u64], slot: Slot) -> &[u64]
+    requires { Sized part.now }
     ensures words { result.now ≡ frame_in (cache_of part.now).frames slot }
     ensures long { length result.now ≡ 512 }
 {
-    let start = PAGE_WORDS * slot;
-    &part[start..start + PAGE_WORDS]
+    pages::page(part, slot.number())
 }
 
-// Noughts in the whole table page.
+pub fn put_frame(part: &mut [u64], slot: Slot, words: &[u64])
+    requires { (Sized part.old) × (length words.now ≡ 512) }
+    ensures cache { cache_of part.new ≡ with_frames (cache_of part.old) (placed (cache_of part.old).frames slot words.now) }
+    ensures low { slot < 120 }
+{
+    pages::put_page(part, slot.number(), words);
+}
+
+/// Noughts in the whole table page.
 pub fn clear(part: &mut [u64])
     requires { Sized part.old }
     ensures { cache_of part.new ≡ cleared (cache_of part.old).frames }
 {
-    let table = &mut part[TABLE..PART_WORDS];
-    table.fill(0);
+    part[TABLE..PART_WORDS].fill(0);
 }
 
-// Marks every frame as clean.
+/// Marks every frame as clean.
 pub fn clear_marks(part: &mut [u64])
     requires { Sized part.old }
     ensures { cache_of part.new ≡ with_marks (cache_of part.old) (replicate 120 0) }
 {
-    let marks = &mut part[MARKS..PINS];
-    marks.fill(0);
+    part[MARKS..PINS].fill(0);
 }

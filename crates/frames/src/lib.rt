@@ -4,15 +4,17 @@
 // batch, in the order in which they were entered), which are pinned, and which leaves next.
 #![tactic(auto)]
 
-mod cache;
+mod change;
 mod guard;
 mod layout;
-mod steps;
+mod look;
+mod slot;
 #[cfg(test)]
 mod tests;
 
-pub use cache::{
-    batch_len, batch_page, batch_slot, copy_out, fill, find, reset, settle, stage, victim,
-};
-pub use guard::{Pinned, Writable, change, enter, pin, read_held};
-pub use layout::{BATCH, FRAME_COUNT, PAGE_WORDS, PART_WORDS, frame};
+pub use change::FramesMut;
+pub use guard::{Pinned, Writable, enter, pin};
+pub use layout::{BATCH, FRAME_COUNT, PART_WORDS, frame};
+pub use look::Frames;
+pub use pages::PAGE_WORDS;
+pub use slot::Slot;

@@ -1,9 +1,10 @@
 -- The parts of the lent slice, and a write to one of them seen from the others.
-use Rattle.std.proofs.Common.{◌≡◌, ℕ, ◌+◌, ◌≤◌, List, length, take, drop, ap, ◌∙◌, arith, length-append, length-drop, length-take, take_at, drop_at, rules}
+use Rattle.std.proofs.Common.{◌≡◌, ℕ, ◌+◌, ◌≤◌, List, length, ◌++◌, take, drop, ap, ◌∙◌, arith, length-append, length-drop, length-take, take_at, drop_at, rules}
 use borrow.Rule.Slice.PartMut.{put_mid}
 use Rattle.std.proofs.lemmas.List.{places, same_lists}
 use Rattle.std.proofs.lemmas.Slice.{between-put_mid, take-put_mid_below, drop-put_mid}
-use Rattle.store.specs.Store.{frames_of, next_of, scratch_of}
+use Rattle.store.specs.Head.{Head, head_of}
+use Rattle.store.specs.Store.{frames_of, next_of, next, scratch_of}
 
 -- a write of ys to xs[a .. a + k], seen from below
 pub part_below : (a k : ℕ) (xs ys : List ℕ) → a + k ≤ length xs → length ys ≡ k → (s m : ℕ) → s + m ≤ a → take m (drop s (put_mid a k xs ys)) ≡ take m (drop s xs)
@@ -11,6 +12,24 @@ part_below a k xs ys fits same s m h = same_lists _ _ (search (rules, places)) (
 
 pub length_put_mid : (a k : ℕ) (xs ys : List ℕ) → a + k ≤ length xs → length ys ≡ k → length (put_mid a k xs ys) ≡ length xs
 length_put_mid a k xs ys fits same = search (rules, places)
+
+-- the parts put together again
+pub frames_parts : (a r : List ℕ) → length a ≡ 61952 → frames_of (a ++ r) ≡ a
+frames_parts a r l = take_at a r 61952 l
+
+pub next_parts : (a w s : List ℕ) → length a ≡ 61952 → length w ≡ 512 → next_of (a ++ (w ++ s)) ≡ w
+next_parts a w s l k = ap (take 512) (drop_at a (w ++ s) 61952 l) ∙ take_at w s 512 k
+
+pub head_parts : (a w s : List ℕ) (h : Head) → length a ≡ 61952 → length w ≡ 512 → head_of w ≡ h → next (a ++ (w ++ s)) ≡ h
+head_parts a w s h l k e = ap head_of (next_parts a w s l k) ∙ e
+
+-- other frames before what stood behind them
+module _ (part a r : List ℕ) (l : length part ≡ 62976) (k : length a ≡ 61952) (e : r ≡ drop 61952 part) where
+  pub held_next : next_of (a ++ r) ≡ next_of part
+  held_next = ap (take 512) (drop_at a r 61952 k ∙ e)
+
+  pub held_long : length (a ++ r) ≡ 62976
+  held_long = length-append a r ∙ omega (arith, ap length e, length-drop 61952 part)
 
 module _ (part : List ℕ) (l : length part ≡ 62976) where
   pub length_next : length (next_of part) ≡ 512

@@ -17,6 +17,9 @@ abbrev pub word_of : Record → ℕ
 word_of (Put k x) = x
 word_of (Drop k) = 0
 
+abbrev pub words_of : Record → List ℕ
+words_of r = tag_of r ∷ key_of r ∷ word_of r ∷ []
+
 abbrev pub record_of : ℕ → ℕ → ℕ → Record
 record_of t k x = cond (t == 2) (Drop k) (Put k x)
 

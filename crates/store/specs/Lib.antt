@@ -2,3 +2,4 @@ pub mod Medium
 pub mod Head
 pub mod State
 pub mod Store
+pub mod HeadPages

@@ -1,11 +1,10 @@
-use Rattle.std.proofs.Common.{◌+◌, ◌-◌, ◌*◌, ◌∙◌, arith}
-use Rattle.frames.proofs.Words.{frame_read, cut_long}
+use Rattle.std.proofs.Common.{ap, ◌∙◌}
+use Rattle.frames.specs.Layout.{cache_of, frame_in}
+use Rattle.frames.proofs.Words.{frame_read}
 use Rattle.frames.proofs.layout.frame.Goals as goal
 
-pub returns : goal.returns
-returns c =
-    let i = c.args.slot in
-    record {
-      words = frame_read c.args.part.now i (512 * i + 512 - 512 * i) c.requires.0 c.requires.1 (omega arith);
-      long = cut_long c.args.part.now (512 * i) (512 * i + 512 - 512 * i) (omega arith) ∙ omega arith;
-    }
+pub returns-clause-words : goal.returns-clause-words
+returns-clause-words c =
+    let part = c.args.part.now in
+    c.page.ensures.words ∙ frame_read part c.number.result c.requires c.number.ensures.low
+    ∙ ap (frame_in (cache_of part).frames) c.number.ensures.is

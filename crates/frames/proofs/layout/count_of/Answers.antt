@@ -1,5 +1,0 @@
-use Rattle.frames.proofs.Words.{count_read}
-use Rattle.frames.proofs.layout.count_of.Goals as goal
-
-pub returns : goal.returns
-returns c = count_read c.args.part.now

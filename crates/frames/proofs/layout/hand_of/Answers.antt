@@ -1,5 +1,0 @@
-use Rattle.frames.proofs.Words.{hand_read}
-use Rattle.frames.proofs.layout.hand_of.Goals as goal
-
-pub returns : goal.returns
-returns c = hand_read c.args.part.now

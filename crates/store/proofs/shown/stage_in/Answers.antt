@@ -1,0 +1,37 @@
+use Rattle.std.proofs.Common.{◌≡◌, ℕ, ◌+◌, ◌<◌, ◌≤◌, List, length, get_or, sum, sym, ap, ◌∙◌, subst, rules}
+use Rattle.frames.specs.Layout.{Cache, cache_of}
+use Rattle.frames.specs.Frames.{Sound as Framed, Clean, at, pinned, shown_by, fill, enter}
+use Rattle.frames.proofs.Slots.{rows}
+use Rattle.store.specs.Store.{frames_of, cache}
+use Rattle.store.proofs.Places.{frames_parts, held_next, held_long}
+use Rattle.store.proofs.Views.{entered_like, intact_changed, plain_set}
+use Rattle.store.proofs.shown.stage_in.Goals as goal
+
+pub returns : goal.returns
+returns c =
+    let part = c.args.part.now in
+    let slot = c.args.slot in
+    let words = c.args.words.now in
+    let r = c.split_at_mut-held.result.1.now in
+    let a : c.held-1.given.0 ≡ c.stage.new.self.part.now = search rules in
+    let k : length c.held-1.given.0 ≡ 61952 = ap length a ∙ c.stage.new.self.sound.sized in
+    let back = c.split_at_mut-held.ensures.back in
+    let f = frames_parts c.held-1.given.0 r k ∙ a in
+    let held = c.new-frames.ensures.same ∙ c.split_at_mut-held.ensures.front in
+    let ca = ap cache_of f ∙ c.stage.ensures.cache ∙ ap (λ (x : List ℕ). enter (fill (cache_of x) slot c.args.p words) slot) held in
+    let long = held_long part c.held-1.given.0 r c.told-part k back in
+    let next = held_next part c.held-1.given.0 r c.told-part k back in
+    let y = entered_like (fill (cache part) slot c.args.p words) slot in
+    record {
+      staged = λ m s i no' far near. record {
+        intact = intact_changed m part _ s i no' long next (subst Framed (sym f) c.stage.new.self.sound)
+            (subst (λ (x : List ℕ). Clean (cache_of x) m.shown) (sym f) (c.stage.ensures.clean m.shown (subst (λ (x : List ℕ). Clean (cache_of x) m.shown) (sym held) i.clean)))
+            (subst (λ (ps : List ℕ). (j : ℕ) → j < 120 → 0 < get_or ps j 0 → (393 ≤ get_or ps j 0) × (get_or ps j 0 < m.pages)) (sym (ap (λ (d : Cache). d.pages) ca ∙ y.0)) (plain_set m (cache part).pages slot c.args.p (rows (frames_of part) i.table.sized).pages c.stage.ensures.stands.low far near i.plain))
+            (ap pinned ca ∙ ap sum y.1 ∙ i.pins);
+        head = next;
+        view = ap (λ (x : List ℕ). shown_by (cache_of x) m.shown) f
+            ∙ c.stage.ensures.shown m.shown (subst (λ (x : List ℕ). Clean (cache_of x) m.shown) (sym held) i.clean)
+            ∙ ap (λ (x : List ℕ). at c.args.p words (shown_by (cache_of x) m.shown)) held;
+        count = subst (λ (d : Cache). d.count ≤ (cache part).count + 1) (sym ca) y.2;
+      };
+    }
