@@ -6,10 +6,10 @@ use Rattle.std.proofs.lemmas.Bool.{cases_Bool, cases_order, and_parts, and_cases
 use Rattle.lines.specs.declared.line.Line.{Line}
 use Rattle.lines.specs.declared.line.Line.TheVariants.{Idle, Wrote, Cleared, Stale, Read, Scanned, Marked}
 use Rattle.view.specs.declared.seen.Seen.{Seen}
-use Rattle.view.specs.declared.seen.Seen.TheVariants.{There, Away, Unknown}
+use Rattle.view.specs.declared.seen.Seen.TheVariants.{There, Away}
 use Rattle.node.specs.Pairs.{find, above}
 use Rattle.view.specs.Writes.{with_lines, Rising}
-use Rattle.view.specs.Sight.{as_found, settled_by, is_there, says, viewed}
+use Rattle.view.specs.Sight.{word_of, as_found, is_there, says, viewed}
 use Rattle.view.specs.Upkeep.{key_of, next_key, SuccOk}
 use Rattle.view.specs.Nexts.{is_away, Walked, ends, stays, goes, Rises, under, least_line, least_in, Onward, ahead}
 use Rattle.view.proofs.Found.{Pairs, IsNext, none, some, above_is}
@@ -18,23 +18,23 @@ use Rattle.view.proofs.Looks.{SeenOk, ok_says, NoPut, no_says, viewed_found}
 use Rattle.view.proofs.Upkeeps.{IsKey, end, at, key_only, key_is}
 
 -- what is found, by what lines say
-away_missing : (s : Seen) (n : Option ℕ) (d : Option ℕ) → s ≡ Away n → as_found s d ≡ None
+away_missing : (s : Option Seen) (n : Option ℕ) (d : Option ℕ) → s ≡ Some (Away n) → as_found s d ≡ None
 away_missing s n d e = ap (λ x. as_found x d) e
 
-tree_missing : (s : Seen) (d : Option ℕ) → d ≡ None → is_there s ≡ false → as_found s d ≡ None
-tree_missing (There x) d e h = cc
-tree_missing (Away n) d e h = refl
-tree_missing Unknown d e h = e
+tree_missing : (s : Option Seen) (d : Option ℕ) → d ≡ None → is_there s ≡ false → as_found s d ≡ None
+tree_missing (Some (There x)) d e h = cc
+tree_missing (Some (Away n)) d e h = refl
+tree_missing None d e h = e
 
-there_word : (s : Seen) (d : Option ℕ) → is_there s ≡ true → (x : ℕ) × (as_found s d ≡ Some x)
-there_word (There x) d h = (x, refl)
-there_word (Away n) d h = absurd (both_ways false refl h)
-there_word Unknown d h = absurd (both_ways false refl h)
+there_word : (s : Option Seen) (d : Option ℕ) → is_there s ≡ true → (x : ℕ) × (as_found s d ≡ Some x)
+there_word (Some (There x)) d h = (x, refl)
+there_word (Some (Away n)) d h = absurd (both_ways false refl h)
+there_word None d h = absurd (both_ways false refl h)
 
-stay_word : (s : Seen) (d : Option ℕ) (x : ℕ) → is_away s ≡ false → d ≡ Some x → (y : ℕ) × (as_found s d ≡ Some y)
-stay_word (There y) d x h e = (y, refl)
-stay_word (Away n) d x h e = absurd (both_ways true h refl)
-stay_word Unknown d x h e = (x, e)
+stay_word : (s : Option Seen) (d : Option ℕ) (x : ℕ) → is_away s ≡ false → d ≡ Some x → (y : ℕ) × (as_found s d ≡ Some y)
+stay_word (Some (There y)) d x h e = (y, refl)
+stay_word (Some (Away n)) d x h e = absurd (both_ways true h refl)
+stay_word None d x h e = (x, e)
 
 abbrev pub Under : ℕ → Option ℕ → Type 0
 Under j None = Unit {0}
@@ -74,7 +74,7 @@ module _ (t : Pairs) (q o : List Line) (k : ℕ) where
   reached_first a (end h) = ((λ j i u n. tree_missing (says q o j) (find j t) (h j i) n), tt)
   reached_first a (at l x i e v) = ((λ j h u n. tree_missing (says q o j) (find j t) (v j h u) n), (i, (x, e)))
 
-  step : (p : ℕ) (s : Option ℕ) → k < p → says q o p ≡ Away s → IsKey (λ j. find j t) p s → Reached (Some p) → Reached s × OnTree s
+  step : (p : ℕ) (s : Option ℕ) → k < p → says q o p ≡ Some (Away s) → IsKey (λ j. find j t) p s → Reached (Some p) → Reached s × OnTree s
   unfolding viewed
   step p s i e (end h) r = (
     (λ j u w n. elim (cases_order j p) [
@@ -94,7 +94,7 @@ module _ (t : Pairs) (q o : List Line) (k : ℕ) where
   )
 
   module _ (up : Rising t) (okq : SuccOk t q) (oko : SuccOk t o) where
-    succ_is : (p : ℕ) (s : Option ℕ) → says q o p ≡ Away s → IsKey (λ j. find j t) p s
+    succ_is : (p : ℕ) (s : Option ℕ) → says q o p ≡ Some (Away s) → IsKey (λ j. find j t) p s
     succ_is p s e = let h : s ≡ next_key p t = subst (SeenOk t p) e (ok_says t q o p okq oko) in rw h (key_is p t up)
 
     pub rises : Rises (says q o)
@@ -213,44 +213,34 @@ module _ (t : Pairs) (q o : List Line) (k : ℕ) where
       let c = least_in (says q o) k o b in
       is_key c y.0.reached y.0.stands (All-weaker (Passed b) (Passed c) (passed_lower c b y.0.lower) q x.1) y.1
 
-found_by : (t : Pairs) (q o : List Line) (k : ℕ) (s : Seen) → s ≡ says q o k → as_found s (find k t) ≡ viewed t q o k
+found_by : (t : Pairs) (q o : List Line) (k : ℕ) (s : Option Seen) → s ≡ says q o k → as_found s (find k t) ≡ viewed t q o k
 unfolding viewed
 found_by t q o k s e = ap (λ x. as_found x (find k t)) e
 
-settled_some : (s : Seen) (d o : Option ℕ) → Some o ≡ settled_by s → o ≡ as_found s d
-settled_some (There x) d o e = cc
-settled_some (Away n) d o e = cc
-settled_some Unknown d o e = cc
+module _ (t : Pairs) (q o : List Line) (k : ℕ) (s : Option Seen) (is : s ≡ says q o k) where
+  pub found_said : (a : Seen) → Some a ≡ s → word_of a ≡ viewed t q o k
+  found_said a e = ap (λ x. as_found x (find k t)) e ∙ found_by t q o k s is
 
-settled_none : (s : Seen) (d : Option ℕ) → None ≡ settled_by s → d ≡ as_found s d
-settled_none (There x) d e = cc
-settled_none (Away n) d e = cc
-settled_none Unknown d e = refl
-
-module _ (t : Pairs) (q o : List Line) (k : ℕ) (s : Seen) (is : s ≡ says q o k) where
-  pub found_settled : (a : Option ℕ) → Some a ≡ settled_by s → a ≡ viewed t q o k
-  found_settled a e = settled_some s (find k t) a e ∙ found_by t q o k s is
-
-  pub found_asked : None ≡ settled_by s → find k t ≡ viewed t q o k
-  found_asked e = settled_none s (find k t) e ∙ found_by t q o k s is
+  pub found_asked : None ≡ s → find k t ≡ viewed t q o k
+  found_asked e = ap (λ x. as_found x (find k t)) e ∙ found_by t q o k s is
 
 -- THE WALK, a step
-pub ahead_less : (f : ℕ → Seen) (t s : Option ℕ) (p : ℕ) → Rises f → t ≡ Some p → p < 2 ^ 64 → Away s ≡ f p → ahead s < ahead t
+pub ahead_less : (f : ℕ → Option Seen) (t s : Option ℕ) (p : ℕ) → Rises f → t ≡ Some p → p < 2 ^ 64 → Some (Away s) ≡ f p → ahead s < ahead t
 ahead_less f t None p r e h g = rw e (omega arith)
 ahead_less f t (Some m) p r e h g = let i : p < m = r p m (sym g) in rw e (omega arith)
 
-pub walk_more : (f : ℕ → Seen) (t s a r : Option ℕ) (p : ℕ) → t ≡ Some p → Away s ≡ f p → Walked f s r → Walked f t r
+pub walk_more : (f : ℕ → Option Seen) (t s a r : Option ℕ) (p : ℕ) → t ≡ Some p → Some (Away s) ≡ f p → Walked f s r → Walked f t r
 walk_more f t s a r p e g w = rw e (goes p s r (sym g) w)
 
-not_away : (s : Seen) → ((n : Option ℕ) → s ≡ Away n → ⊥) → is_away s ≡ false
-not_away (There x) h = refl
-not_away (Away n) h = absurd (h n refl)
-not_away Unknown h = refl
+not_away : (s : Option Seen) → ((n : Option ℕ) → s ≡ Some (Away n) → ⊥) → is_away s ≡ false
+not_away (Some (There x)) h = refl
+not_away (Some (Away n)) h = absurd (h n refl)
+not_away None h = refl
 
-pub walk_stays : (f : ℕ → Seen) (t : Option ℕ) (p : ℕ) (s : Seen) → t ≡ Some p → s ≡ f p → ((n : Option ℕ) → s ≡ Away n → ⊥) → Walked f t (Some p)
+pub walk_stays : (f : ℕ → Option Seen) (t : Option ℕ) (p : ℕ) (s : Option Seen) → t ≡ Some p → s ≡ f p → ((n : Option ℕ) → s ≡ Some (Away n) → ⊥) → Walked f t (Some p)
 walk_stays f t p s e g h = rw e (stays p (ap is_away (sym g) ∙ not_away s h))
 
-pub walk_ends : (f : ℕ → Seen) (t : Option ℕ) → t ≡ None → Walked f t None
+pub walk_ends : (f : ℕ → Option Seen) (t : Option ℕ) → t ≡ None → Walked f t None
 walk_ends f t e = rw e ends
 
 -- THE KEY IN THE PAIRS THAT THE DEAL SEES

@@ -2,22 +2,21 @@
 ghost use Rattle.std.specs.Prelude.{◌≡◌, ℕ, ◌+◌, ◌<◌, ◌≤◌, true, false, List, [], ◌∷◌, length, is_ok, IfOk, OnOk, slice_index};
 ghost use Rattle.lines.specs.Tables.{tables, behind, deal_lines, queue_lines, QueueIn};
 ghost use Rattle.view.specs.Room.{Counts, Applied};
-ghost use Rattle.view.specs.Upkeep.{change_by, SuccOk};
+ghost use Rattle.view.specs.Upkeep.{SuccOk};
 ghost use Rattle.view.specs.Writes.{with_lines, Rising};
 
 use crate::index::Index;
-use crate::kept::{Change, keep_deals, keep_queue};
+use crate::kept::{change_by, keep_deals, keep_queue};
 use lines::line::Line;
 use lines::queue::front_of;
 use lines::ring::Ring;
 use tree::Gone;
 
-// One record; tells what the tree gains or loses by it.
-fn work_in<D: Index>(index: &mut D, room: &mut [u64], line: Line) -> Result<Change, Gone>
+// One record.
+fn work_in<D: Index>(index: &mut D, room: &mut [u64], line: Line) -> Result<(), Gone>
     requires room { length room.old ≡ 262144 }
     requires asks { ((D.budget index.old).change ≤ (D.budget index.old).left) × (D.ready index.old (behind room.old)) }
     requires whole { (a : D) × (w : List ℕ) × D.onto a w true index.old (behind room.old) }
-    ensures told { IfOk result (λ h. h ≡ change_by line) }
     ensures done { OnOk result (D.pairs index.new (behind room.new) ≡ with_lines (D.pairs index.old (behind room.old)) (line ∷ [])) }
     ensures asked { OnOk result ((D.budget index.old).left ≤ (D.budget index.new).left + (D.budget index.old).change) }
     ensures tables { tables room.new ≡ tables room.old }
@@ -25,15 +24,9 @@ fn work_in<D: Index>(index: &mut D, room: &mut [u64], line: Line) -> Result<Chan
     ensures tied { D.tie index.new ≡ D.tie index.old }
 {
     match line {
-        Line::Wrote(k, x) => {
-            index.put(room, k, x)?;
-            Ok(Change::Gained(k))
-        }
-        Line::Cleared(k, above) => {
-            index.remove(room, k)?;
-            Ok(Change::Lost(k, above))
-        }
-        _ => Ok(Change::Still),
+        Line::Wrote(k, x) => index.put(room, k, x),
+        Line::Cleared(k, _) => index.remove(room, k),
+        _ => Ok(()),
     }
 }
 
@@ -62,7 +55,8 @@ pub fn apply_front<D: Index>(
     ensures tied { D.tie index.new ≡ D.tie index.old }
 {
     let (line, rest) = front_of(room, queue);
-    let change = work_in(index, room, line)?;
+    work_in(index, room, line)?;
+    let change = change_by(line);
     keep_queue(room, rest, change);
     keep_deals(room, counts, change);
     Ok(rest)

@@ -15,11 +15,7 @@ use lines::ring::Ring;
 fn is_write(line: Line) -> bool
     ensures { result ≡ is_write line }
 {
-    match line {
-        Line::Wrote(_, _) => true,
-        Line::Cleared(_, _) => true,
-        _ => false,
-    }
+    matches!(line, Line::Wrote(..) | Line::Cleared(..))
 }
 
 // Gives the longer queue, which then does to any tree what the deal did.

@@ -5,26 +5,15 @@ ghost use Rattle.lines.specs.Tables.{tables, behind};
 ghost use Rattle.node.specs.Pairs.{find, above};
 ghost use Rattle.view.specs.Asks.{Spent};
 ghost use Rattle.view.specs.Room.{Stands, own_of, queue_of, pairs_seen};
-ghost use Rattle.view.specs.Sight.{settled_by, viewed};
+ghost use Rattle.view.specs.Sight.{viewed};
 ghost use Rattle.view.specs.Upkeep.{key_of, next_key, SuccOk};
 ghost use Rattle.view.specs.Writes.{Rising};
 
 use crate::index::Index;
-use crate::seen::{Seen, View, in_room};
+use crate::seen::{View, in_room};
 use crate::walk::onward;
 use lines::line::Line;
 use tree::Gone;
-
-// What is found by the lines alone; none where the tree is to be asked.
-fn settled(seen: Seen) -> Option<Option<u64>>
-    ensures { result ≡ settled_by seen }
-{
-    match seen {
-        Seen::There(x) => Some(Some(x)),
-        Seen::Away(_) => Some(None),
-        Seen::Unknown => None,
-    }
-}
 
 // The word at k as the deal sees it. One pass over its lines and the queue, and at most one `get`.
 pub fn look<D: Index>(
@@ -45,8 +34,8 @@ pub fn look<D: Index>(
     ensures onto { (a : D) (w : List ℕ) → D.onto a w true index.old (behind room.old) → D.onto a w (is_ok result) index.new (behind room.new) }
     ensures tied { D.tie index.new ≡ D.tie index.old }
 {
-    match settled(in_room(room, view, k)) {
-        Some(found) => Ok(found),
+    match in_room(room, view, k) {
+        Some(seen) => Ok(seen.word()),
         None => index.get(room, k),
     }
 }
@@ -55,10 +44,7 @@ pub fn look<D: Index>(
 fn key_of(pair: Option<(u64, u64)>) -> Option<u64>
     ensures { result ≡ key_of pair }
 {
-    match pair {
-        Some((p, _)) => Some(p),
-        None => None,
-    }
+    pair.map(|(p, _)| p)
 }
 
 // The first key above k that the deal sees. Exactly one `next`, and no word of the disk for the keys that the room has dropped.
@@ -103,13 +89,11 @@ pub fn next_pair<D: Index>(
     ensures onto { (a : D) (w : List ℕ) → D.onto a w true index.old (behind room.old) → D.onto a w (is_ok result) index.new (behind room.new) }
     ensures tied { D.tie index.new ≡ D.tie index.old }
 {
-    match next_key(index, room, view, k)? {
-        None => Ok(None),
-        Some(p) => match look(index, room, view, p)? {
-            Some(x) => Ok(Some((p, x))),
-            None => unreachable(),
-        },
-    }
+    let Some(p) = next_key(index, room, view, k)? else {
+        return Ok(None);
+    };
+    let word = look(index, room, view, p)?;
+    Ok(word.map(|x| (p, x)))
 }
 
 // A drop's line, as the tree is now. Exactly one `next`.

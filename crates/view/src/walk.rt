@@ -17,10 +17,10 @@ fn walk(room: &[u64], view: View, first: Option<u64>) -> Option<u64>
 {
     let mut t = first;
     while let Some(p) = t {
-        match in_room(room, view, p) {
-            Seen::Away(s) => t = s,
-            _ => return Some(p),
-        }
+        let Some(Seen::Away(above)) = in_room(room, view, p) else {
+            return Some(p);
+        };
+        t = above;
     }
     None
 }
@@ -28,20 +28,14 @@ fn walk(room: &[u64], view: View, first: Option<u64>) -> Option<u64>
 fn is_under(key: u64, best: Option<u64>) -> bool
     ensures { result ≡ under key best }
 {
-    match best {
-        None => true,
-        Some(p) => key < p,
-    }
+    best.is_none_or(|p| key < p)
 }
 
 fn is_there(room: &[u64], view: View, key: u64) -> bool
     requires { Stands room.now view }
     ensures { result ≡ is_there (says (queue_of room.now view) (own_of room.now view) key) }
 {
-    match in_room(room, view, key) {
-        Seen::There(_) => true,
-        _ => false,
-    }
+    matches!(in_room(room, view, key), Some(Seen::There(_)))
 }
 
 fn least_of(line: Line, room: &[u64], view: View, k: u64, best: Option<u64>) -> Option<u64>
