@@ -5,16 +5,25 @@ ghost use Rattle.lines.specs.Marks.{marks_in, backed};
 ghost use Rattle.lines.specs.Tables.{deal_lines, DealIn, OnlyDeal};
 
 use crate::line::Line;
+use crate::marks;
+use crate::ring::Lines;
 use crate::tables::{DEAL_WORDS, deal_ring};
-use crate::{marks, ring};
+
+// The lines of a deal that has so many.
+pub fn lines_of<'a>(room: &'a [u64], deal: usize, count: usize) -> Lines<'a>
+    requires { DealIn room.now deal count }
+    ensures { result ≡ deal_lines room.now deal count }
+{
+    let at = DEAL_WORDS * deal;
+    deal_ring(count).lines(&room[at..at + DEAL_WORDS])
+}
 
 // The line i of a deal with so many lines.
 pub fn line_of(room: &[u64], deal: usize, count: usize, i: usize) -> Line
     requires { (DealIn room.now deal count) × (i < count) }
     ensures { result ≡ slice_index_or (deal_lines room.now deal count) i Idle }
 {
-    let at = DEAL_WORDS * deal;
-    ring::line_at(&room[at..at + DEAL_WORDS], deal_ring(count), i)
+    lines_of(room, deal, count).at(i)
 }
 
 // One more line; the deal has `count + 1` then.
@@ -24,7 +33,7 @@ pub fn add_line(room: &mut [u64], deal: usize, count: usize, line: Line)
     ensures only { OnlyDeal room.old room.new deal }
 {
     let at = DEAL_WORDS * deal;
-    ring::push(&mut room[at..at + DEAL_WORDS], deal_ring(count), line);
+    deal_ring(count).push(&mut room[at..at + DEAL_WORDS], line);
 }
 
 // How many marks of the deal stand.
@@ -33,8 +42,7 @@ pub fn marks_of(room: &[u64], deal: usize, count: usize) -> usize
     ensures is { result ≡ marks_in (deal_lines room.now deal count) }
     ensures few { result ≤ count }
 {
-    let at = DEAL_WORDS * deal;
-    marks::marks_in(&room[at..at + DEAL_WORDS], deal_ring(count))
+    marks::marks_in(lines_of(room, deal, count))
 }
 
 // The deal goes back: its first `stay` marks stay, and what stands before the last of them.

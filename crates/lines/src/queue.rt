@@ -4,16 +4,23 @@ ghost use Rattle.lines.specs.declared.line.Line.TheVariants.{Idle};
 ghost use Rattle.lines.specs.Tables.{queue_lines, QueueIn, OnlyQueue};
 
 use crate::line::Line;
-use crate::ring;
-use crate::ring::Ring;
+use crate::ring::{Lines, Ring};
 use crate::tables::{QUEUE_AT, TABLES_END};
+
+// The records of the queue.
+pub fn records_of<'a>(room: &'a [u64], queue: Ring) -> Lines<'a>
+    requires { QueueIn room.now queue }
+    ensures { result ≡ queue_lines room.now queue }
+{
+    queue.lines(&room[QUEUE_AT..TABLES_END])
+}
 
 // The record i of the queue.
 pub fn record_at(room: &[u64], queue: Ring, i: usize) -> Line
     requires { (QueueIn room.now queue) × (i < queue.count) }
     ensures { result ≡ slice_index_or (queue_lines room.now queue) i Idle }
 {
-    ring::line_at(&room[QUEUE_AT..TABLES_END], queue, i)
+    records_of(room, queue).at(i)
 }
 
 // One more record at the queue's end.
@@ -23,7 +30,7 @@ pub fn add_record(room: &mut [u64], queue: Ring, line: Line) -> Ring
     ensures queue { (QueueIn room.new result) × ((result.start ≡ queue.start) × (result.count ≡ queue.count + 1)) }
     ensures only { OnlyQueue room.old room.new }
 {
-    ring::push(&mut room[QUEUE_AT..TABLES_END], queue, line)
+    queue.push(&mut room[QUEUE_AT..TABLES_END], line)
 }
 
 // The first record of a queue that has one, and the queue without it. No word is written.
@@ -32,5 +39,5 @@ pub fn front_of(room: &[u64], queue: Ring) -> (Line, Ring)
     ensures lines { queue_lines room.now queue ≡ result.0 ∷ queue_lines room.now result.1 }
     ensures queue { (QueueIn room.now result.1) × (result.1.count + 1 ≡ queue.count) }
 {
-    ring::pop_front(&room[QUEUE_AT..TABLES_END], queue)
+    queue.pop_front(&room[QUEUE_AT..TABLES_END])
 }
