@@ -1,5 +1,5 @@
 -- The front of the queue has gone into the tree: the pairs are the same, and what is kept above dropped keys is right.
-use Rattle.std.proofs.Common.{◌≡◌, ℕ, ◌<◌, List, [], ◌∷◌, map, length, get_or, sym, ap, ◌∙◌, subst}
+use Rattle.std.proofs.Common.{◌≡◌, ℕ, ◌<◌, List, [], ◌∷◌, map, length, get_or, Option, sym, ap, ◌∙◌, subst}
 use Rattle.lines.specs.declared.line.Line.{Line}
 use Rattle.lines.specs.declared.ring.Ring.{Ring}
 use Rattle.lines.specs.Tables.{tables, deal_lines, queue_lines, OnlyQueue}

@@ -2,6 +2,7 @@
 use Rattle.std.proofs.Common.{◌≡◌, ℕ, ◌+◌, ◌-◌, ◌<◌, ◌≤◌, true, false, eqb, List, [], ◌∷◌, ◌++◌, length, get_or, take, Some, None, Option, sym, refl, ap, ◌∙◌, inl, inr, arith}
 use Rattle.std.proofs.lemmas.List.{take_more}
 use Rattle.std.specs.List.{AllByRecursion}
+use Rattle.std.specs.Option.{MatchOption}
 use Rattle.std.proofs.lemmas.Bool.{cases_Bool, ne_eqb, eqb-true, both_ways}
 use Rattle.node.specs.Pairs.{find}
 use Rattle.lines.specs.declared.line.Line.{Line}
@@ -44,25 +45,9 @@ pub says_over : (q o : List Line) (j : ℕ) → says q o j ≡ over (seen_in j o
 unfolding says
 says_over q o j = seen_over j o None (seen_in j q None)
 
-over_some : (s d : Option Seen) → (s ≡ None → ⊥) → over s d ≡ s
-over_some (Some x) d h = refl
-over_some None d h = absurd (h refl)
-
--- one line more
-pub last_step : (j i : ℕ) (ls : List Line) → i < length ls → seen_in j (take (i + 1) ls) None ≡ over (seen_line j (get_or ls i Idle) None) (seen_in j (take i ls) None)
-last_step j i ls h = ap (λ x. seen_in j x None) (take_more ls i Idle h) ∙ (seen_push j (take i ls) (get_or ls i Idle) None ∙ line_over j (get_or ls i Idle) (seen_in j (take i ls) None))
-
-module _ (j i : ℕ) (ls : List Line) (all s : Option Seen) (low : 0 < i) (high : i ≤ length ls) (inv : seen_in j (take i ls) None ≡ all) (is : s ≡ seen_line j (get_or ls (i - 1) Idle) None) where
-  back_one : over s (seen_in j (take (i - 1) ls) None) ≡ all
-  back_one =
-      let e : i - 1 + 1 ≡ i = omega arith in
-      rw is (sym (last_step j (i - 1) ls (omega arith)) ∙ (ap (λ n. seen_in j (take n ls) None) e ∙ inv))
-
-  pub last_miss : s ≡ None → seen_in j (take (i - 1) ls) None ≡ all
-  last_miss e = ap (λ r. over r (seen_in j (take (i - 1) ls) None)) (sym e) ∙ back_one
-
-  pub last_hit : (s ≡ None → ⊥) → s ≡ all
-  last_hit h = sym (over_some s (seen_in j (take (i - 1) ls) None) h) ∙ back_one
+pub or_over : (s d r : Option Seen) → MatchOption s (r ≡ d) (λ x. r ≡ Some x) → r ≡ over s d
+or_over (Some x) d r h = h
+or_over None d r h = h
 
 -- what is found by the writes
 put_found : (j k x : ℕ) (s : Option Seen) (d : Option ℕ) → written j (Puts k x) (as_found s d) ≡ as_found (seen_line j (Wrote k x) s) d

@@ -1,6 +1,7 @@
 -- The next key that a deal sees: the walk over dropped keys, and the least that lines put.
 use Rattle.std.proofs.Common.{◌≡◌, ℕ, ◌^◌, ◌<◌, true, false, ◌&&◌, ltb, List, [], ◌∷◌, Some, None, Option, sym, refl, ap, ◌∙◌, subst, inl, inr, arith}
-use Rattle.std.specs.List.{AllByRecursion}
+use Rattle.std.specs.List.{AllByRecursion, fold}
+use Rattle.std.specs.Option.{option_map}
 use Rattle.std.proofs.ByRecursion.{All-weaker}
 use Rattle.std.proofs.lemmas.Bool.{cases_Bool, cases_order, and_parts, and_cases, ltb-true, ltb-false, both_ways}
 use Rattle.lines.specs.declared.line.Line.{Line}
@@ -224,6 +225,11 @@ module _ (t : Pairs) (q o : List Line) (k : ℕ) (s : Option Seen) (is : s ≡ s
   pub found_asked : None ≡ s → find k t ≡ viewed t q o k
   found_asked e = ap (λ x. as_found x (find k t)) e ∙ found_by t q o k s is
 
+-- the least of lines is a fold over them
+pub least_fold : (f : ℕ → Option Seen) (k : ℕ) (ls : List Line) (b : Option ℕ) → fold (λ a l. least_line f k l a) b ls ≡ least_in f k ls b
+least_fold f k [] b = refl
+least_fold f k (l ∷ ls) b = least_fold f k ls (least_line f k l b)
+
 -- THE WALK, a step
 pub ahead_less : (f : ℕ → Option Seen) (t s : Option ℕ) (p : ℕ) → Rises f → t ≡ Some p → p < 2 ^ 64 → Some (Away s) ≡ f p → ahead s < ahead t
 ahead_less f t None p r e h g = rw e (omega arith)
@@ -263,7 +269,7 @@ next_none t k e = no_key (above k t) e
     no_key None e = refl
     no_key (Some p) e = cc
 
-pub next_some : (t : Pairs) (k p x : ℕ) → Rising t → Some p ≡ next_key k t → Some x ≡ find p t → Some (p, x) ≡ above k t
+next_some : (t : Pairs) (k p x : ℕ) → Rising t → Some p ≡ next_key k t → Some x ≡ find p t → Some (p, x) ≡ above k t
 unfolding next_key
 next_some t k p x u e w = pair (above k t) (above_is k t u) e
   where
@@ -274,7 +280,7 @@ next_some t k p x u e w = pair (above k t) (above_is k t u) e
         let y : d.1 ≡ x = cc (ap (λ n. find n t) m) in
         ap Some (ap (λ n. (n, x)) (sym m) ∙ ap (λ n. (d.0, n)) (sym y))
 
-pub next_there : (t : Pairs) (k p : ℕ) → Rising t → Some p ≡ next_key k t → None ≡ find p t → ⊥
+next_there : (t : Pairs) (k p : ℕ) → Rising t → Some p ≡ next_key k t → None ≡ find p t → ⊥
 next_there t k p u e w = stands (next_key k t) (key_is k t u) e
   where
     stands : (o : Option ℕ) → IsKey (λ j. find j t) k o → Some p ≡ o → ⊥
@@ -282,3 +288,7 @@ next_there t k p u e w = stands (next_key k t) (key_is k t u) e
     stands o (at l x i h v) z =
         let m : l ≡ p = cc in
         let y : ◌≡◌ {A = ℕ} 0 1 = cc (ap (λ n. find n t) m) in omega arith
+
+pub next_word : (t : Pairs) (k p : ℕ) (o : Option ℕ) → Rising t → Some p ≡ next_key k t → o ≡ find p t → option_map (λ x. (p, x)) o ≡ above k t
+next_word t k p None u e w = absurd (next_there t k p u e w)
+next_word t k p (Some x) u e w = next_some t k p x u e w

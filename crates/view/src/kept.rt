@@ -1,14 +1,14 @@
 // The tree's first key above each dropped one is kept while the tree changes.
 ghost use Rattle.std.specs.Prelude.{◌≡◌, ℕ, ◌<◌, map, length, slice_index};
 ghost use Rattle.lines.specs.declared.ring.Ring.{Ring as RingOf};
-ghost use Rattle.lines.specs.Rings.{Holds, lines_of};
 ghost use Rattle.lines.specs.Tables.{deal_lines, queue_lines, behind, DealIn, QueueIn, OnlyDeal, OnlyQueue};
 ghost use Rattle.view.specs.Upkeep.{change_by, kept_succ, kept_by};
 ghost use Rattle.view.specs.Room.{Counts};
 
 use lines::line::Line;
-use lines::ring::{Ring, line_at, set_line};
-use lines::tables::{DEAL_WORDS, DEALS, QUEUE_AT, TABLES_END, deal_ring};
+use lines::own::change_lines;
+use lines::queue::change_records;
+use lines::ring::Ring;
 
 // The tree has gained a key; or lost one, with the first that is above it.
 #[derive(Clone, Copy, PartialEq, Debug)]
@@ -47,24 +47,13 @@ fn kept_line(change: Option<Change>, line: Line) -> Line
     }
 }
 
-// All lines of a ring: the queue's, or a deal's.
-pub fn keep_lines(words: &mut [u64], ring: Ring, change: Option<Change>)
-    requires { Holds words.old ring }
-    ensures { lines_of words.new ring ≡ map (kept_by change) (lines_of words.old ring) }
-{
-    for i in 0..ring.count {
-        let line = line_at(words, ring, i);
-        set_line(words, ring, i, kept_line(change, line));
-    }
-}
-
 // The queue's records.
 pub fn keep_queue(room: &mut [u64], queue: Ring, change: Option<Change>)
     requires { QueueIn room.old queue }
     ensures lines { queue_lines room.new queue ≡ map (kept_by change) (queue_lines room.old queue) }
     ensures only { OnlyQueue room.old room.new }
 {
-    keep_lines(&mut room[QUEUE_AT..TABLES_END], queue, change);
+    change_records(room, queue, |line| kept_line(change, line));
 }
 
 // The lines of one deal.
@@ -73,8 +62,7 @@ fn keep_deal(room: &mut [u64], deal: usize, count: usize, change: Option<Change>
     ensures lines { deal_lines room.new deal count ≡ map (kept_by change) (deal_lines room.old deal count) }
     ensures only { OnlyDeal room.old room.new deal }
 {
-    let at = DEAL_WORDS * deal;
-    keep_lines(&mut room[at..at + DEAL_WORDS], deal_ring(count), change);
+    change_lines(room, deal, count, |line| kept_line(change, line));
 }
 
 // The lines of all deals; `counts` says how many each has.
@@ -84,7 +72,7 @@ pub fn keep_deals(room: &mut [u64], counts: &[usize], change: Option<Change>)
     ensures queue { (r : RingOf) → queue_lines room.new r ≡ queue_lines room.old r }
     ensures behind { behind room.new ≡ behind room.old }
 {
-    for c in 0..DEALS {
-        keep_deal(room, c, counts[c], change);
+    for (deal, count) in counts.iter().enumerate() {
+        keep_deal(room, deal, *count, change);
     }
 }

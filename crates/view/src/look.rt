@@ -10,8 +10,8 @@ ghost use Rattle.view.specs.Upkeep.{key_of, next_key, SuccOk};
 ghost use Rattle.view.specs.Writes.{Rising};
 
 use crate::index::Index;
-use crate::seen::{View, in_room};
-use crate::walk::onward;
+use crate::seen::View;
+use crate::sight::Sight;
 use lines::line::Line;
 use tree::Gone;
 
@@ -34,7 +34,7 @@ pub fn look<D: Index>(
     ensures onto { (a : D) (w : List ℕ) → D.onto a w true index.old (behind room.old) → D.onto a w (is_ok result) index.new (behind room.new) }
     ensures tied { D.tie index.new ≡ D.tie index.old }
 {
-    match in_room(room, view, k) {
+    match Sight::new(room, view).says(k) {
         Some(seen) => Ok(seen.word()),
         None => index.get(room, k),
     }
@@ -66,8 +66,8 @@ pub fn next_key<D: Index>(
     ensures onto { (a : D) (w : List ℕ) → D.onto a w true index.old (behind room.old) → D.onto a w (is_ok result) index.new (behind room.new) }
     ensures tied { D.tie index.new ≡ D.tie index.old }
 {
-    let pair = index.next(room, k)?;
-    Ok(onward(room, view, k, key_of(pair)))
+    let first = key_of(index.next(room, k)?);
+    Ok(Sight::new(room, view).onward(k, first))
 }
 
 // The first pair above k that the deal sees. One `next`, and at most one `get` for its word.
@@ -108,6 +108,6 @@ pub fn drop_line<D: Index>(index: &mut D, room: &mut [u64], k: u64) -> Result<Li
     ensures onto { (a : D) (w : List ℕ) → D.onto a w true index.old (behind room.old) → D.onto a w (is_ok result) index.new (behind room.new) }
     ensures tied { D.tie index.new ≡ D.tie index.old }
 {
-    let pair = index.next(room, k)?;
-    Ok(Line::Cleared(k, key_of(pair)))
+    let above = key_of(index.next(room, k)?);
+    Ok(Line::Cleared(k, above))
 }
