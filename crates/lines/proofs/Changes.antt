@@ -39,4 +39,3 @@ map_from_changes R h f (x ∷ xs) ys (y, zs, g, e, s, c) step =
     let k = step x y g s in
     let d : ChangesTo R f xs zs = subst (λ q. ChangesTo R q xs zs) k.0 c in
     e ∙ (ap (λ q. q ∷ zs) k.1 ∙ ap (λ q. h x ∷ q) (map_from_changes R h f xs zs d step))
-

@@ -35,16 +35,19 @@ pub fn go_back(words: &mut [u64], ring: Ring, stay: usize)
     ensures marks { marks_in (lines_of words.new ring) ≡ min stay (marks_in (lines_of words.old ring)) }
 {
     let mut left = stay;
-    ring.change_all(words, move |line: Line| -> Line
-        ensures line { result ≡ line_back left.entry line }
-        ensures left { left.exit ≡ left_back left.entry line }
-    {
-        if left == 0 {
-            return stale_line(line);
-        }
-        if matches!(line, Line::Marked) {
-            left -= 1;
-        }
-        line
-    });
+    ring.change_all(
+        words,
+        move |line: Line| -> Line
+            ensures line { result ≡ line_back left.entry line }
+            ensures left { left.exit ≡ left_back left.entry line }
+        {
+            if left == 0 {
+                return stale_line(line);
+            }
+            if matches!(line, Line::Marked) {
+                left -= 1;
+            }
+            line
+        },
+    );
 }

@@ -1,6 +1,6 @@
 // The queue of committed writes, in the room.
-ghost use Rattle.std.specs.Prelude.{◌≡◌, ◌+◌, ◌<◌, [], ◌∷◌, ◌++◌, slice_index_or};
-ghost use Rattle.lines.specs.declared.line.Line.TheVariants.{Idle};
+ghost use Rattle.std.specs.Prelude.{◌≡◌, ◌+◌, ◌<◌, [], ◌∷◌, ◌++◌};
+ghost use Rattle.lines.specs.Changes.{ChangesTo};
 ghost use Rattle.lines.specs.Tables.{queue_lines, QueueIn, OnlyQueue};
 
 use crate::line::Line;
@@ -15,14 +15,6 @@ pub fn records_of<'a>(room: &'a [u64], queue: Ring) -> Lines<'a>
     queue.lines(&room[QUEUE_AT..TABLES_END])
 }
 
-// The record i of the queue.
-pub fn record_at(room: &[u64], queue: Ring, i: usize) -> Line
-    requires { (QueueIn room.now queue) × (i < queue.count) }
-    ensures { result ≡ slice_index_or (queue_lines room.now queue) i Idle }
-{
-    records_of(room, queue).at(i)
-}
-
 // One more record at the queue's end.
 pub fn add_record(room: &mut [u64], queue: Ring, line: Line) -> Ring
     requires { (QueueIn room.old queue) × (queue.count < 32768) }
@@ -31,6 +23,16 @@ pub fn add_record(room: &mut [u64], queue: Ring, line: Line) -> Ring
     ensures only { OnlyQueue room.old room.new }
 {
     queue.push(&mut room[QUEUE_AT..TABLES_END], line)
+}
+
+// Each record becomes what `change` makes of it, from the first on.
+pub fn change_records<F: FnMut(Line) -> Line>(room: &mut [u64], queue: Ring, change: F)
+    requires room { QueueIn room.old queue }
+    requires callable { F.IsAlwaysCallable change }
+    ensures lines { ChangesTo F.step change (queue_lines room.old queue) (queue_lines room.new queue) }
+    ensures only { OnlyQueue room.old room.new }
+{
+    queue.change_all(&mut room[QUEUE_AT..TABLES_END], change);
 }
 
 // The first record of a queue that has one, and the queue without it. No word is written.

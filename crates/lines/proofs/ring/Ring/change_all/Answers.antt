@@ -18,7 +18,7 @@ loop-i-preserved g c =
     let all = set_lines u v r i c.change-line.result (omega arith) (omega arith) (ap (line_at v) (sym is) ∙ e.written) (λ q d. e.others q (λ k. d (k ∙ is))) (omega arith) in
     let x = c.read_line.ensures ∙ ap (line_at u) is ∙ sym (at_line u r i Idle (omega arith)) in
     let t = turn (goal.F-step g) c.args.change c.loop-i.change (lines_of w r) (lines_of u r) i (omega (arith, length_lines w r)) (length_lines u r ∙ sym (length_lines w r)) c.loop-i.invariant.done c.loop-i.invariant.rest
-        c.read_line.result c.change-line.result c.change-line.new.self x c.change-line.ensures in
+    c.read_line.result c.change-line.result c.change-line.new.self x c.change-line.ensures in
     record { callable = search of_calls; done = rw all t.0; rest = rw all t.1 }
 
 pub returns : goal.returns
@@ -26,4 +26,4 @@ returns g c =
     let r = c.args.self in
     let n = c.loop-i.auto.i-end in
     all_done (goal.F-step g) c.args.change c.loop-i.change (lines_of c.args.words.now r) (lines_of c.loop-i.words r) c.loop-i.i
-        (omega (arith, length_lines c.args.words.now r)) (omega (arith, length_lines c.loop-i.words r)) c.loop-i.invariant.done
+    (omega (arith, length_lines c.args.words.now r)) (omega (arith, length_lines c.loop-i.words r)) c.loop-i.invariant.done
