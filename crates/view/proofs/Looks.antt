@@ -1,9 +1,7 @@
 -- What lines say of a key, one line more; and what is found by their writes.
-use Rattle.std.proofs.Common.{◌≡◌, ℕ, ◌+◌, ◌-◌, ◌<◌, ◌≤◌, true, false, eqb, List, [], ◌∷◌, ◌++◌, length, get_or, take, Some, None, Option, sym, refl, ap, ◌∙◌, inl, inr, arith}
-use Rattle.std.proofs.lemmas.List.{take_more}
+use Rattle.std.proofs.Common.{◌≡◌, ℕ, false, eqb, List, [], ◌∷◌, ◌++◌, Some, None, Option, sym, refl, ap, ◌∙◌, inl, inr}
 use Rattle.std.specs.List.{AllByRecursion}
-use Rattle.std.specs.Option.{MatchOption}
-use Rattle.std.proofs.lemmas.Bool.{cases_Bool, ne_eqb, eqb-true, both_ways}
+use Rattle.std.proofs.lemmas.Bool.{cases_Bool, ne_eqb, eqb-true}
 use Rattle.node.specs.Pairs.{find}
 use Rattle.lines.specs.declared.line.Line.{Line}
 use Rattle.lines.specs.declared.line.Line.TheVariants.{Idle, Wrote, Cleared, Stale, Read, Scanned, Marked}
@@ -45,9 +43,12 @@ pub says_over : (q o : List Line) (j : ℕ) → says q o j ≡ over (seen_in j o
 unfolding says
 says_over q o j = seen_over j o None (seen_in j q None)
 
-pub or_over : (s d r : Option Seen) → MatchOption s (r ≡ d) (λ x. r ≡ Some x) → r ≡ over s d
-or_over (Some x) d r h = h
-or_over None d r h = h
+pub says_queue : (q o : List Line) (j : ℕ) (r : Option Seen) → None ≡ seen_in j o None → r ≡ seen_in j q None → r ≡ says q o j
+says_queue q o j r e h = h ∙ (ap (λ x. over x (seen_in j q None)) e ∙ sym (says_over q o j))
+
+pub says_own : (q o : List Line) (j : ℕ) (r : Option Seen) → r ≡ seen_in j o None → (r ≡ None → ⊥) → r ≡ says q o j
+says_own q o j None h n = absurd (n refl)
+says_own q o j (Some x) h n = ap (λ x. over x (seen_in j q None)) h ∙ sym (says_over q o j)
 
 -- what is found by the writes
 put_found : (j k x : ℕ) (s : Option Seen) (d : Option ℕ) → written j (Puts k x) (as_found s d) ≡ as_found (seen_line j (Wrote k x) s) d

@@ -238,13 +238,15 @@ ahead_less f t (Some m) p r e h g = let i : p < m = r p m (sym g) in rw e (omega
 pub walk_more : (f : ℕ → Option Seen) (t s a r : Option ℕ) (p : ℕ) → t ≡ Some p → Some (Away s) ≡ f p → Walked f s r → Walked f t r
 walk_more f t s a r p e g w = rw e (goes p s r (sym g) w)
 
-not_away : (s : Option Seen) → ((n : Option ℕ) → s ≡ Some (Away n) → ⊥) → is_away s ≡ false
-not_away (Some (There x)) h = refl
-not_away (Some (Away n)) h = absurd (h n refl)
-not_away None h = refl
+pub walk_silent : (f : ℕ → Option Seen) (t : Option ℕ) (p : ℕ) → t ≡ Some p → None ≡ f p → Walked f t (Some p)
+walk_silent f t p e g = rw e (stays p (ap is_away (sym g)))
 
-pub walk_stays : (f : ℕ → Option Seen) (t : Option ℕ) (p : ℕ) (s : Option Seen) → t ≡ Some p → s ≡ f p → ((n : Option ℕ) → s ≡ Some (Away n) → ⊥) → Walked f t (Some p)
-walk_stays f t p s e g h = rw e (stays p (ap is_away (sym g) ∙ not_away s h))
+not_away : (s : Seen) → ((n : Option ℕ) → s ≡ Away n → ⊥) → is_away (Some s) ≡ false
+not_away (There x) h = refl
+not_away (Away n) h = absurd (h n refl)
+
+pub walk_there : (f : ℕ → Option Seen) (t : Option ℕ) (p : ℕ) (s : Seen) → t ≡ Some p → Some s ≡ f p → ((n : Option ℕ) → s ≡ Away n → ⊥) → Walked f t (Some p)
+walk_there f t p s e g h = rw e (stays p (ap is_away (sym g) ∙ not_away s h))
 
 pub walk_ends : (f : ℕ → Option Seen) (t : Option ℕ) → t ≡ None → Walked f t None
 walk_ends f t e = rw e ends

@@ -58,8 +58,11 @@ impl<'a> Sight<'a> {
     pub fn says(&self, key: u64) -> Option<Seen>
         ensures { result ≡ says_of self.now key }
     {
-        let queue = self.queue();
-        last_of(self.own(), key).or_else(|| last_of(queue, key))
+        // `or_else` would ask a closure over the room, of which no caller learns what it gives.
+        match last_of(self.own(), key) {
+            None => last_of(self.queue(), key),
+            said => said,
+        }
     }
 
     fn is_there(&self, key: u64) -> bool
@@ -75,10 +78,13 @@ impl<'a> Sight<'a> {
     {
         let mut t = first;
         while let Some(p) = t {
-            match self.says(p) {
-                Some(Seen::Away(above)) => t = above,
-                Some(Seen::There(_)) | None => return Some(p),
-            }
+            let Some(seen) = self.says(p) else {
+                return Some(p);
+            };
+            let Seen::Away(above) = seen else {
+                return Some(p);
+            };
+            t = above;
         }
         None
     }
@@ -87,7 +93,9 @@ impl<'a> Sight<'a> {
         ensures { result ≡ least_line (says_of self.now) k line best }
     {
         match line {
-            Line::Wrote(key, _) if k < key && is_under(key, best) && self.is_there(key) => Some(key),
+            Line::Wrote(key, _) if k < key && is_under(key, best) && self.is_there(key) => Some(
+                key,
+            ),
             _ => best,
         }
     }

@@ -41,7 +41,7 @@ impl Index for PairList {
 
     fn put(&mut self, room: &mut [u64], k: u64, x: u64) -> Result<(), Gone> {
         match place_from(&self.items, k) {
-            Some(i) if self.items[i].0 == k => self.items[i].1 = x,
+            Some(i) if self.items[i].0 == k => self.items[i] = (k, x),
             Some(i) => insert(&mut self.items, i, (k, x))?,
             None => {
                 let end = self.items.len();

@@ -2,7 +2,6 @@ use Rattle.std.proofs.Common.{◌≡◌, sym, ap, ◌∙◌, subst, rules}
 use Rattle.lines.specs.Tables.{behind}
 use Rattle.view.specs.Nexts.{Rises, Onward}
 use Rattle.view.specs.Room.{own_of, queue_of, says_of}
-use Rattle.view.specs.Sight.{says}
 use Rattle.view.specs.Upkeep.{key_of, next_key}
 use Rattle.view.proofs.Onward.{rises, onward_key}
 use Rattle.view.proofs.Tabled.{stands_on, said_on}

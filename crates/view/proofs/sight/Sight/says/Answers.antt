@@ -1,13 +1,18 @@
-use Rattle.std.proofs.Common.{◌≡◌, None, Some, sym, ap, ◌∙◌, rules}
-use Rattle.std.specs.Option.{MatchOption}
+use Rattle.std.proofs.Common.{None, sym, ap, ◌∙◌}
 use Rattle.view.specs.Sight.{seen_in}
-use Rattle.view.proofs.Looks.{over, or_over, says_over}
+use Rattle.view.proofs.Looks.{says_queue, says_own}
 use Rattle.view.proofs.sight.Sight.says.Goals as goal
 
-pub returns : goal.returns
-returns c =
+pub returns-in-None : goal.returns-in-None
+returns-in-None c =
     let s = c.args.self.now in
     let k = c.args.key in
     let own = c.last_of.ensures ∙ ap (λ x. seen_in k x None) c.own.ensures in
-    let q : MatchOption c.last_of.result (c.or_else.result ≡ seen_in k s.queue None) (λ x. c.or_else.result ≡ Some x) = let z = c.or_else.ensures in ? in
-    or_over c.last_of.result (seen_in k s.queue None) c.or_else.result q ∙ (ap (λ x. over x (seen_in k s.queue None)) own ∙ sym (says_over s.queue s.own k))
+    let queue = c.last_of-in-None.ensures ∙ ap (λ x. seen_in k x None) c.queue.ensures in
+    says_queue s.queue s.own k c.last_of-in-None.result (sym c.in-None.is ∙ own) queue
+
+pub returns-in_default : goal.returns-in_default
+returns-in_default c =
+    let s = c.args.self.now in
+    let own = c.last_of.ensures ∙ ap (λ x. seen_in c.args.key x None) c.own.ensures in
+    says_own s.queue s.own c.args.key c.last_of.result own c.in_default.not-None
