@@ -4,7 +4,7 @@ ghost use Rattle.std.specs.List.{insert};
 ghost use Rattle.view_tests.specs.Play.{free};
 
 use crate::places::{pair_above, place_from, place_of, word_at};
-use tree::Gone;
+use pages::Gone;
 use view::index::Index;
 
 #[derive(Drop)]

@@ -1,7 +1,7 @@
 // What is shown of a play, and why one stops.
+use pages::Gone;
 use std::alloc::AllocError;
 use std::{fmt, io};
-use tree::Gone;
 
 #[derive(Debug, Drop)]
 pub enum Stop {

@@ -33,6 +33,5 @@ returns g c =
       queue = (queue_in_on w v s long c.front_of-line.ensures.queue.0, c.front_of-line.ensures.queue.1);
       gone = search rules;
       asked = e.asked;
-      onto = λ a o k. subst (g.D.Index.onto a o _ d) (sym back) (e.onto a o k);
-      tied = c.work_in.ensures.tied;
+      passed = record { onto = λ a o k. subst (g.D.Index.onto a o _ d) (sym back) (e.passed.onto a o k); tied = e.passed.tied };
     }

@@ -18,7 +18,7 @@ returns-in-Some g c =
     let b = g.D.Index.budget c.args.index.now in
     let said = c.says.ensures ∙ ap (λ s. says_of s c.args.k) c.new.ensures in
     let e = c.word.ensures ∙ found_said t q o c.args.k c.says.result said c.in-Some.seen (sym c.in-Some.is) in
-    record { found = e; told = e ∙ viewed_found t q o c.args.k c.requires.up; same = refl; asked = spent_none b.get b; tables = refl; onto = λ a u h. h; tied = refl }
+    record { found = e; told = e ∙ viewed_found t q o c.args.k c.requires.up; asked = record { same = refl; spent = spent_none b.get b }; tables = refl; passed = record { onto = λ a u h. h; tied = refl } }
 
 pub returns-in-None : goal.returns-in-None
 returns-in-None g c =
@@ -33,9 +33,7 @@ returns-in-None g c =
     record {
       found = IfOk-weaker c.get.result P (λ a. a ≡ viewed t q o k) (λ a h. h ∙ e) c.get.ensures.told;
       told = IfOk-weaker c.get.result P (λ a. a ≡ find k (pairs_seen t w c.args.view)) (λ a h. h ∙ (e ∙ viewed_found t q o k c.requires.up)) c.get.ensures.told;
-      same = c.get.ensures.same;
       asked = c.get.ensures.asked;
       tables = c.get.ensures.tables;
-      onto = c.get.ensures.onto;
-      tied = c.get.ensures.tied;
+      passed = c.get.ensures.passed;
     }

@@ -1,4 +1,4 @@
-use Rattle.std.proofs.Common.{◌≡◌, sym, ap, ◌∙◌, subst, rules}
+use Rattle.std.proofs.Common.{◌≡◌, sym, ap, ◌∙◌, subst}
 use Rattle.lines.specs.Tables.{behind}
 use Rattle.view.specs.Nexts.{Rises, Onward}
 use Rattle.view.specs.Room.{own_of, queue_of, says_of}
@@ -30,9 +30,7 @@ returns g c =
     let on = subst (λ s. Onward s.queue s.own c.args.k c.key_of-first.result c.onward.result) said c.onward.ensures in
     record {
       told = onward_key t (queue_of w x) (own_of w x) c.args.k c.key_of-first.result c.onward.result c.requires.up c.requires.succs.0 c.requires.succs.1 first on;
-      same = e.same;
       asked = e.asked;
       tables = c.next.ensures.tables;
-      onto = search rules;
-      tied = c.next.ensures.tied;
+      passed = e.passed;
     }

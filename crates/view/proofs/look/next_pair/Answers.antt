@@ -18,11 +18,9 @@ returns-in_default g c =
     let e = c.in_ok-p.ensures in
     record {
       told = next_none (pairs_seen t w c.args.view) c.args.k (sym c.in_default.is ∙ e.told);
-      same = e.same;
-      asked = spent_more b.next (b.next + b.get) b (g.D.Index.budget c.next_key.new.index) (omega arith) e.asked;
+      asked = record { same = e.asked.same; spent = spent_more b.next (b.next + b.get) b (g.D.Index.budget c.next_key.new.index) (omega arith) e.asked.spent };
       tables = c.next_key.ensures.tables;
-      onto = search rules;
-      tied = c.next_key.ensures.tied;
+      passed = e.passed;
     }
 
 pub returns : goal.returns
@@ -36,13 +34,14 @@ returns g c =
     let f = c.in_ok-word.ensures in
     let p = c.in-Some.p in
     let up = rising_lines (with_lines t (queue_of w c.args.view)) (own_of w c.args.view) (rising_lines t (queue_of w c.args.view) c.requires.up) in
-    let on = seen_on w c.next_key.new.room c.args.view c.next_key.auto.room c.next_key.ensures.tables c.requires.stands t (g.D.Index.pairs c.next_key.new.index (behind c.next_key.new.room)) e.same in
+    let on = seen_on w c.next_key.new.room c.args.view c.next_key.auto.room c.next_key.ensures.tables c.requires.stands t (g.D.Index.pairs c.next_key.new.index (behind c.next_key.new.room)) e.asked.same in
     let m : c.map.result ≡ option_map (λ x. (p, x)) c.in_ok-word.word = search rules in
     record {
       told = m ∙ next_word s c.args.k p c.in_ok-word.word up (sym c.in-Some.is ∙ e.told) (f.told ∙ ap (find p) on);
-      same = f.same ∙ e.same;
-      asked = spent_both b.next b.get b d (g.D.Index.budget c.look.new.index) e.asked (spent_more d.get b.get d (g.D.Index.budget c.look.new.index) (omega (arith, e.asked.get)) f.asked);
+      asked = record {
+        same = f.asked.same ∙ e.asked.same;
+        spent = spent_both b.next b.get b d (g.D.Index.budget c.look.new.index) e.asked.spent (spent_more d.get b.get d (g.D.Index.budget c.look.new.index) (omega (arith, e.asked.spent.get)) f.asked.spent);
+      };
       tables = c.look.ensures.tables ∙ c.next_key.ensures.tables;
-      onto = search rules;
-      tied = c.look.ensures.tied ∙ c.next_key.ensures.tied;
+      passed = record { onto = λ a x h. f.passed.onto a x (e.passed.onto a x h); tied = f.passed.tied ∙ e.passed.tied };
     }

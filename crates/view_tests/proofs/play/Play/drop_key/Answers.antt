@@ -18,9 +18,9 @@ invariant_of-self c =
     let e = c.in_ok-line.ensures in
     let back = whole p.room.len b p.room.items (omega arith) (omega arith) in
     let old = subst (λ (w : List ℕ). Sane t w p.counts p.queue) (sym c.as_mut_slice.ensures.value) c.self.invariant in
-    let asked = sane_on t u a b p.counts p.queue e.same c.drop_line.auto.room c.drop_line.ensures.tables old in
+    let asked = sane_on t u a b p.counts p.queue e.asked.same c.drop_line.auto.room c.drop_line.ensures.tables old in
     let now = subst (λ (w : List ℕ). Sane u w p.counts p.queue) (sym (c.as_mut_slice-2.ensures.value ∙ back)) asked in
-    let said = c.say.ensures.sane u p.queue now (drop_ok u c.args.k c.in_ok-line.line (e.told ∙ ap (λ x. Cleared c.args.k (next_key c.args.k x)) (sym e.same))) in
+    let said = c.say.ensures.sane u p.queue now (drop_ok u c.args.k c.in_ok-line.line (e.told ∙ ap (λ x. Cleared c.args.k (next_key c.args.k x)) (sym e.asked.same))) in
     subst (λ (w : List ℕ). Sane u w c.say.new.counts p.queue) (sym (whole p.room.len v _ (omega arith) (ap length back ∙ omega arith))) said
 
 pub returns : goal.returns
@@ -35,4 +35,4 @@ returns c =
     ∙ (c.say.ensures.queue q
     ∙ (ap (λ w. queue_lines w q) (c.as_mut_slice-2.ensures.value ∙ back)
     ∙ (same_queue c.as_mut_slice.result.now b c.drop_line.auto.room c.drop_line.ensures.tables q ∙ ap (λ w. queue_lines w q) c.as_mut_slice.ensures.value))) in
-    same_seen p.index.items.items c.drop_line.new.index.items.items _ _ c.in_ok-line.ensures.same queue ∙ c.self.view_is
+    same_seen p.index.items.items c.drop_line.new.index.items.items _ _ c.in_ok-line.ensures.asked.same queue ∙ c.self.view_is
