@@ -1,5 +1,5 @@
 -- The front of the queue has gone into the tree: the pairs are the same, and what is kept above dropped keys is right.
-use Rattle.std.proofs.Common.{◌≡◌, ℕ, ◌<◌, List, [], ◌∷◌, map, length, get_or, sym, ap, ◌∙◌, subst}
+use Rattle.std.proofs.Common.{◌≡◌, ℕ, ◌<◌, List, [], ◌∷◌, map, length, get_or, Option, sym, ap, ◌∙◌, subst}
 use Rattle.lines.specs.declared.line.Line.{Line}
 use Rattle.lines.specs.declared.ring.Ring.{Ring}
 use Rattle.lines.specs.Tables.{tables, deal_lines, queue_lines, OnlyQueue}
@@ -13,7 +13,7 @@ use Rattle.view.proofs.Done.{rising_lines, lines_front}
 use Rattle.view.proofs.Upkeeps.{kept_lines, kept_succ_lem}
 
 -- the room as the record is taken (w), as it is in the tree (x), as the queue is kept (y), and as the deals are (v)
-module _ (t u : Pairs) (w x y v ns : List ℕ) (r s : Ring) (l : Line) (h : Change)
+module _ (t u : Pairs) (w x y v ns : List ℕ) (r s : Ring) (l : Line) (h : Option Change)
     (long : length x ≡ length w) (same : tables x ≡ tables w) (was : queue_lines w r ≡ l ∷ queue_lines w s) (is : h ≡ change_by l) (tree : u ≡ with_lines t (l ∷ []))
     (queued : queue_lines y s ≡ map (kept_by h) (queue_lines x s)) (only : OnlyQueue x y)
     (dealt : (c : ℕ) → c < 32 → deal_lines v c (get_or ns c 0) ≡ map (kept_by h) (deal_lines y c (get_or ns c 0))) (rest : (q : Ring) → queue_lines v q ≡ queue_lines y q) where

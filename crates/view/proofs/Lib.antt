@@ -7,3 +7,4 @@ pub mod Filed
 pub mod Asking
 pub mod Tabled
 pub mod Applying
+pub mod Lasts

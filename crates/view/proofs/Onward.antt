@@ -1,15 +1,16 @@
 -- The next key that a deal sees: the walk over dropped keys, and the least that lines put.
 use Rattle.std.proofs.Common.{◌≡◌, ℕ, ◌^◌, ◌<◌, true, false, ◌&&◌, ltb, List, [], ◌∷◌, Some, None, Option, sym, refl, ap, ◌∙◌, subst, inl, inr, arith}
-use Rattle.std.specs.List.{AllByRecursion}
+use Rattle.std.specs.List.{AllByRecursion, fold}
+use Rattle.std.specs.Option.{option_map}
 use Rattle.std.proofs.ByRecursion.{All-weaker}
 use Rattle.std.proofs.lemmas.Bool.{cases_Bool, cases_order, and_parts, and_cases, ltb-true, ltb-false, both_ways}
 use Rattle.lines.specs.declared.line.Line.{Line}
 use Rattle.lines.specs.declared.line.Line.TheVariants.{Idle, Wrote, Cleared, Stale, Read, Scanned, Marked}
 use Rattle.view.specs.declared.seen.Seen.{Seen}
-use Rattle.view.specs.declared.seen.Seen.TheVariants.{There, Away, Unknown}
+use Rattle.view.specs.declared.seen.Seen.TheVariants.{There, Away}
 use Rattle.node.specs.Pairs.{find, above}
 use Rattle.view.specs.Writes.{with_lines, Rising}
-use Rattle.view.specs.Sight.{as_found, settled_by, is_there, says, viewed}
+use Rattle.view.specs.Sight.{word_of, as_found, is_there, says, viewed}
 use Rattle.view.specs.Upkeep.{key_of, next_key, SuccOk}
 use Rattle.view.specs.Nexts.{is_away, Walked, ends, stays, goes, Rises, under, least_line, least_in, Onward, ahead}
 use Rattle.view.proofs.Found.{Pairs, IsNext, none, some, above_is}
@@ -18,23 +19,23 @@ use Rattle.view.proofs.Looks.{SeenOk, ok_says, NoPut, no_says, viewed_found}
 use Rattle.view.proofs.Upkeeps.{IsKey, end, at, key_only, key_is}
 
 -- what is found, by what lines say
-away_missing : (s : Seen) (n : Option ℕ) (d : Option ℕ) → s ≡ Away n → as_found s d ≡ None
+away_missing : (s : Option Seen) (n : Option ℕ) (d : Option ℕ) → s ≡ Some (Away n) → as_found s d ≡ None
 away_missing s n d e = ap (λ x. as_found x d) e
 
-tree_missing : (s : Seen) (d : Option ℕ) → d ≡ None → is_there s ≡ false → as_found s d ≡ None
-tree_missing (There x) d e h = cc
-tree_missing (Away n) d e h = refl
-tree_missing Unknown d e h = e
+tree_missing : (s : Option Seen) (d : Option ℕ) → d ≡ None → is_there s ≡ false → as_found s d ≡ None
+tree_missing (Some (There x)) d e h = cc
+tree_missing (Some (Away n)) d e h = refl
+tree_missing None d e h = e
 
-there_word : (s : Seen) (d : Option ℕ) → is_there s ≡ true → (x : ℕ) × (as_found s d ≡ Some x)
-there_word (There x) d h = (x, refl)
-there_word (Away n) d h = absurd (both_ways false refl h)
-there_word Unknown d h = absurd (both_ways false refl h)
+there_word : (s : Option Seen) (d : Option ℕ) → is_there s ≡ true → (x : ℕ) × (as_found s d ≡ Some x)
+there_word (Some (There x)) d h = (x, refl)
+there_word (Some (Away n)) d h = absurd (both_ways false refl h)
+there_word None d h = absurd (both_ways false refl h)
 
-stay_word : (s : Seen) (d : Option ℕ) (x : ℕ) → is_away s ≡ false → d ≡ Some x → (y : ℕ) × (as_found s d ≡ Some y)
-stay_word (There y) d x h e = (y, refl)
-stay_word (Away n) d x h e = absurd (both_ways true h refl)
-stay_word Unknown d x h e = (x, e)
+stay_word : (s : Option Seen) (d : Option ℕ) (x : ℕ) → is_away s ≡ false → d ≡ Some x → (y : ℕ) × (as_found s d ≡ Some y)
+stay_word (Some (There y)) d x h e = (y, refl)
+stay_word (Some (Away n)) d x h e = absurd (both_ways true h refl)
+stay_word None d x h e = (x, e)
 
 abbrev pub Under : ℕ → Option ℕ → Type 0
 Under j None = Unit {0}
@@ -74,7 +75,7 @@ module _ (t : Pairs) (q o : List Line) (k : ℕ) where
   reached_first a (end h) = ((λ j i u n. tree_missing (says q o j) (find j t) (h j i) n), tt)
   reached_first a (at l x i e v) = ((λ j h u n. tree_missing (says q o j) (find j t) (v j h u) n), (i, (x, e)))
 
-  step : (p : ℕ) (s : Option ℕ) → k < p → says q o p ≡ Away s → IsKey (λ j. find j t) p s → Reached (Some p) → Reached s × OnTree s
+  step : (p : ℕ) (s : Option ℕ) → k < p → says q o p ≡ Some (Away s) → IsKey (λ j. find j t) p s → Reached (Some p) → Reached s × OnTree s
   unfolding viewed
   step p s i e (end h) r = (
     (λ j u w n. elim (cases_order j p) [
@@ -94,7 +95,7 @@ module _ (t : Pairs) (q o : List Line) (k : ℕ) where
   )
 
   module _ (up : Rising t) (okq : SuccOk t q) (oko : SuccOk t o) where
-    succ_is : (p : ℕ) (s : Option ℕ) → says q o p ≡ Away s → IsKey (λ j. find j t) p s
+    succ_is : (p : ℕ) (s : Option ℕ) → says q o p ≡ Some (Away s) → IsKey (λ j. find j t) p s
     succ_is p s e = let h : s ≡ next_key p t = subst (SeenOk t p) e (ok_says t q o p okq oko) in rw h (key_is p t up)
 
     pub rises : Rises (says q o)
@@ -213,44 +214,41 @@ module _ (t : Pairs) (q o : List Line) (k : ℕ) where
       let c = least_in (says q o) k o b in
       is_key c y.0.reached y.0.stands (All-weaker (Passed b) (Passed c) (passed_lower c b y.0.lower) q x.1) y.1
 
-found_by : (t : Pairs) (q o : List Line) (k : ℕ) (s : Seen) → s ≡ says q o k → as_found s (find k t) ≡ viewed t q o k
+found_by : (t : Pairs) (q o : List Line) (k : ℕ) (s : Option Seen) → s ≡ says q o k → as_found s (find k t) ≡ viewed t q o k
 unfolding viewed
 found_by t q o k s e = ap (λ x. as_found x (find k t)) e
 
-settled_some : (s : Seen) (d o : Option ℕ) → Some o ≡ settled_by s → o ≡ as_found s d
-settled_some (There x) d o e = cc
-settled_some (Away n) d o e = cc
-settled_some Unknown d o e = cc
+module _ (t : Pairs) (q o : List Line) (k : ℕ) (s : Option Seen) (is : s ≡ says q o k) where
+  pub found_said : (a : Seen) → Some a ≡ s → word_of a ≡ viewed t q o k
+  found_said a e = ap (λ x. as_found x (find k t)) e ∙ found_by t q o k s is
 
-settled_none : (s : Seen) (d : Option ℕ) → None ≡ settled_by s → d ≡ as_found s d
-settled_none (There x) d e = cc
-settled_none (Away n) d e = cc
-settled_none Unknown d e = refl
+  pub found_asked : None ≡ s → find k t ≡ viewed t q o k
+  found_asked e = ap (λ x. as_found x (find k t)) e ∙ found_by t q o k s is
 
-module _ (t : Pairs) (q o : List Line) (k : ℕ) (s : Seen) (is : s ≡ says q o k) where
-  pub found_settled : (a : Option ℕ) → Some a ≡ settled_by s → a ≡ viewed t q o k
-  found_settled a e = settled_some s (find k t) a e ∙ found_by t q o k s is
-
-  pub found_asked : None ≡ settled_by s → find k t ≡ viewed t q o k
-  found_asked e = settled_none s (find k t) e ∙ found_by t q o k s is
+-- the least of lines is a fold over them
+pub least_fold : (f : ℕ → Option Seen) (k : ℕ) (ls : List Line) (b : Option ℕ) → fold (λ a l. least_line f k l a) b ls ≡ least_in f k ls b
+least_fold f k [] b = refl
+least_fold f k (l ∷ ls) b = least_fold f k ls (least_line f k l b)
 
 -- THE WALK, a step
-pub ahead_less : (f : ℕ → Seen) (t s : Option ℕ) (p : ℕ) → Rises f → t ≡ Some p → p < 2 ^ 64 → Away s ≡ f p → ahead s < ahead t
+pub ahead_less : (f : ℕ → Option Seen) (t s : Option ℕ) (p : ℕ) → Rises f → t ≡ Some p → p < 2 ^ 64 → Some (Away s) ≡ f p → ahead s < ahead t
 ahead_less f t None p r e h g = rw e (omega arith)
 ahead_less f t (Some m) p r e h g = let i : p < m = r p m (sym g) in rw e (omega arith)
 
-pub walk_more : (f : ℕ → Seen) (t s a r : Option ℕ) (p : ℕ) → t ≡ Some p → Away s ≡ f p → Walked f s r → Walked f t r
+pub walk_more : (f : ℕ → Option Seen) (t s a r : Option ℕ) (p : ℕ) → t ≡ Some p → Some (Away s) ≡ f p → Walked f s r → Walked f t r
 walk_more f t s a r p e g w = rw e (goes p s r (sym g) w)
 
-not_away : (s : Seen) → ((n : Option ℕ) → s ≡ Away n → ⊥) → is_away s ≡ false
+pub walk_silent : (f : ℕ → Option Seen) (t : Option ℕ) (p : ℕ) → t ≡ Some p → None ≡ f p → Walked f t (Some p)
+walk_silent f t p e g = rw e (stays p (ap is_away (sym g)))
+
+not_away : (s : Seen) → ((n : Option ℕ) → s ≡ Away n → ⊥) → is_away (Some s) ≡ false
 not_away (There x) h = refl
 not_away (Away n) h = absurd (h n refl)
-not_away Unknown h = refl
 
-pub walk_stays : (f : ℕ → Seen) (t : Option ℕ) (p : ℕ) (s : Seen) → t ≡ Some p → s ≡ f p → ((n : Option ℕ) → s ≡ Away n → ⊥) → Walked f t (Some p)
-walk_stays f t p s e g h = rw e (stays p (ap is_away (sym g) ∙ not_away s h))
+pub walk_there : (f : ℕ → Option Seen) (t : Option ℕ) (p : ℕ) (s : Seen) → t ≡ Some p → Some s ≡ f p → ((n : Option ℕ) → s ≡ Away n → ⊥) → Walked f t (Some p)
+walk_there f t p s e g h = rw e (stays p (ap is_away (sym g) ∙ not_away s h))
 
-pub walk_ends : (f : ℕ → Seen) (t : Option ℕ) → t ≡ None → Walked f t None
+pub walk_ends : (f : ℕ → Option Seen) (t : Option ℕ) → t ≡ None → Walked f t None
 walk_ends f t e = rw e ends
 
 -- THE KEY IN THE PAIRS THAT THE DEAL SEES
@@ -273,7 +271,7 @@ next_none t k e = no_key (above k t) e
     no_key None e = refl
     no_key (Some p) e = cc
 
-pub next_some : (t : Pairs) (k p x : ℕ) → Rising t → Some p ≡ next_key k t → Some x ≡ find p t → Some (p, x) ≡ above k t
+next_some : (t : Pairs) (k p x : ℕ) → Rising t → Some p ≡ next_key k t → Some x ≡ find p t → Some (p, x) ≡ above k t
 unfolding next_key
 next_some t k p x u e w = pair (above k t) (above_is k t u) e
   where
@@ -284,7 +282,7 @@ next_some t k p x u e w = pair (above k t) (above_is k t u) e
         let y : d.1 ≡ x = cc (ap (λ n. find n t) m) in
         ap Some (ap (λ n. (n, x)) (sym m) ∙ ap (λ n. (d.0, n)) (sym y))
 
-pub next_there : (t : Pairs) (k p : ℕ) → Rising t → Some p ≡ next_key k t → None ≡ find p t → ⊥
+next_there : (t : Pairs) (k p : ℕ) → Rising t → Some p ≡ next_key k t → None ≡ find p t → ⊥
 next_there t k p u e w = stands (next_key k t) (key_is k t u) e
   where
     stands : (o : Option ℕ) → IsKey (λ j. find j t) k o → Some p ≡ o → ⊥
@@ -292,3 +290,7 @@ next_there t k p u e w = stands (next_key k t) (key_is k t u) e
     stands o (at l x i h v) z =
         let m : l ≡ p = cc in
         let y : ◌≡◌ {A = ℕ} 0 1 = cc (ap (λ n. find n t) m) in omega arith
+
+pub next_word : (t : Pairs) (k p : ℕ) (o : Option ℕ) → Rising t → Some p ≡ next_key k t → o ≡ find p t → option_map (λ x. (p, x)) o ≡ above k t
+next_word t k p None u e w = absurd (next_there t k p u e w)
+next_word t k p (Some x) u e w = next_some t k p x u e w

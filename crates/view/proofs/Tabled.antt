@@ -1,11 +1,10 @@
 -- Rooms with the same tables: a deal sees the same lines.
-use Rattle.std.proofs.Common.{◌≡◌, ℕ, List, length, sym, ◌∙◌, subst}
-use Rattle.lines.specs.declared.line.Line.{Line}
+use Rattle.std.proofs.Common.{◌≡◌, ℕ, List, length, refl, ◌∙◌}
 use Rattle.lines.specs.declared.ring.Ring.{Ring}
 use Rattle.lines.specs.Tables.{tables, QueueIn}
 use Rattle.lines.proofs.Parts.{same_deals, same_queue}
 use Rattle.view.specs.declared.seen.View.{View}
-use Rattle.view.specs.Room.{Stands, own_of, queue_of, pairs_seen}
+use Rattle.view.specs.Room.{Stands, own_of, queue_of, said_in, pairs_seen}
 use Rattle.view.proofs.Found.{Pairs}
 
 pub queue_in_on : (w v : List ℕ) (r : Ring) → length v ≡ length w → QueueIn w r → QueueIn v r
@@ -21,12 +20,8 @@ module _ (w v : List ℕ) (x : View) (long : length v ≡ length w) (same : tabl
   pub queue_on : queue_of v x ≡ queue_of w x
   queue_on = same_queue w v long same x.queue
 
-  -- what holds of the lines in the one room holds of those in the other
-  pub by_lines : (P : List Line → List Line → Type 0) → P (queue_of v x) (own_of v x) → P (queue_of w x) (own_of w x)
-  by_lines P h = subst (λ a. P (queue_of w x) a) own_on (subst (λ a. P a (own_of v x)) queue_on h)
-
-  pub to_lines : (P : List Line → List Line → Type 0) → P (queue_of w x) (own_of w x) → P (queue_of v x) (own_of v x)
-  to_lines P h = subst (λ a. P (queue_of v x) a) (sym own_on) (subst (λ a. P a (own_of w x)) (sym queue_on) h)
+  pub said_on : said_in v x ≡ said_in w x
+  said_on = rw (own_on, queue_on) refl
 
   pub seen_on : (t u : Pairs) → u ≡ t → pairs_seen u v x ≡ pairs_seen t w x
   seen_on t u e = rw (own_on, queue_on, e)

@@ -107,7 +107,7 @@ kept_succ_lem t w ls u g h =
     All-map (LineOk c) (kept_by (change_by w)) ls (All-weaker (LineOk t) (λ l. LineOk c (kept_by (change_by w) l)) (kept_line t w u g) ls h)
 
 -- the writes stay
-kept_writes : (h : Change) (ls : List Line) → writes_in (map (kept_by h) ls) ≡ writes_in ls
+kept_writes : (h : Option Change) (ls : List Line) → writes_in (map (kept_by h) ls) ≡ writes_in ls
 kept_writes h [] = refl
 kept_writes h (Idle ∷ ls) = kept_writes h ls
 kept_writes h (Wrote k x ∷ ls) = ap (λ ws. Puts k x ∷ ws) (kept_writes h ls)
@@ -117,7 +117,7 @@ kept_writes h (Read k ∷ ls) = kept_writes h ls
 kept_writes h (Scanned k q ∷ ls) = kept_writes h ls
 kept_writes h (Marked ∷ ls) = kept_writes h ls
 
-pub kept_lines : (t : Pairs) (h : Change) (ls : List Line) → with_lines t (map (kept_by h) ls) ≡ with_lines t ls
+pub kept_lines : (t : Pairs) (h : Option Change) (ls : List Line) → with_lines t (map (kept_by h) ls) ≡ with_lines t ls
 kept_lines t h ls = ap (onto t) (kept_writes h ls)
 
 -- LINES COME, AND ARE GONE BACK OVER

@@ -13,3 +13,7 @@ pub record Spent (n : ℕ) (a b : Asks) : Type 0 where
   pub get : b.get ≡ a.get
   pub next : b.next ≡ a.next
   pub change : b.change ≡ a.change
+
+-- at most what one change takes
+abbrev pub ChangeSpent : Asks → Asks → Type 0
+ChangeSpent a b = a.left ≤ b.left + a.change

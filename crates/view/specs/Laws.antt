@@ -37,7 +37,7 @@ StaysRising = (t : Pairs) (ls : List Line) → Rising t → Rising (with_lines t
 
 -- the upkeep changes no write, and keeps what is above each dropped key right
 abbrev pub UpkeepWrites : Type 0
-UpkeepWrites = (t : Pairs) (h : Change) (ls : List Line) → with_lines t (map (kept_by h) ls) ≡ with_lines t ls
+UpkeepWrites = (t : Pairs) (h : Option Change) (ls : List Line) → with_lines t (map (kept_by h) ls) ≡ with_lines t ls
 
 abbrev pub UpkeepIsRight : Type 0
 UpkeepIsRight = (t : Pairs) (l : Line) (ls : List Line) → Rising t → LineOk t l → SuccOk t ls → SuccOk (with_lines t (l ∷ [])) (map (kept_by (change_by l)) ls)

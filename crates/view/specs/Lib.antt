@@ -6,3 +6,4 @@ pub mod Adds
 pub mod Room
 pub mod Laws
 pub mod Asks
+pub mod Index

@@ -3,30 +3,30 @@ use Rattle.std.specs.Prelude.{◌≡◌, ℕ, suc, ◌-◌, ◌^◌, ◌<◌, Bo
 use Rattle.lines.specs.declared.line.Line.{Line}
 use Rattle.lines.specs.declared.line.Line.TheVariants.{Idle, Wrote, Cleared, Stale, Read, Scanned, Marked}
 use Rattle.view.specs.declared.seen.Seen.{Seen}
-use Rattle.view.specs.declared.seen.Seen.TheVariants.{There, Away, Unknown}
+use Rattle.view.specs.declared.seen.Seen.TheVariants.{There, Away}
 use Rattle.view.specs.Sight.{says, is_there}
 
-abbrev pub is_away : Seen → Bool
-is_away (There x) = false
-is_away (Away s) = true
-is_away Unknown = false
+abbrev pub is_away : Option Seen → Bool
+is_away (Some (There x)) = false
+is_away (Some (Away s)) = true
+is_away None = false
 
 -- from a key on, by what is above each that is dropped
-pub data Walked (f : ℕ → Seen) : Option ℕ → Option ℕ → Type 0 where
+pub data Walked (f : ℕ → Option Seen) : Option ℕ → Option ℕ → Type 0 where
   ends : Walked f None None
   stays : (p : ℕ) → is_away (f p) ≡ false → Walked f (Some p) (Some p)
-  goes : (p : ℕ) (s r : Option ℕ) → f p ≡ Away s → Walked f s r → Walked f (Some p) r
+  goes : (p : ℕ) (s r : Option ℕ) → f p ≡ Some (Away s) → Walked f s r → Walked f (Some p) r
 
 -- what is above a dropped key is above it
-abbrev pub Rises : (ℕ → Seen) → Type 0
-Rises f = (j s : ℕ) → f j ≡ Away (Some s) → j < s
+abbrev pub Rises : (ℕ → Option Seen) → Type 0
+Rises f = (j s : ℕ) → f j ≡ Some (Away (Some s)) → j < s
 
 abbrev pub under : ℕ → Option ℕ → Bool
 under j None = true
 under j (Some p) = nat_lt j p
 
 -- the least key above k, and below b, that a line puts and that is there
-abbrev pub least_line : (ℕ → Seen) → ℕ → Line → Option ℕ → Option ℕ
+abbrev pub least_line : (ℕ → Option Seen) → ℕ → Line → Option ℕ → Option ℕ
 least_line f k Idle b = b
 least_line f k (Wrote j x) b = cond (nat_lt k j && (under j b && is_there (f j))) (Some j) b
 least_line f k (Cleared j s) b = b
@@ -35,7 +35,7 @@ least_line f k (Read j) b = b
 least_line f k (Scanned j q) b = b
 least_line f k Marked b = b
 
-abbrev pub least_in : (ℕ → Seen) → ℕ → List Line → Option ℕ → Option ℕ
+abbrev pub least_in : (ℕ → Option Seen) → ℕ → List Line → Option ℕ → Option ℕ
 least_in f k [] b = b
 least_in f k (l ∷ ls) b = least_in f k ls (least_line f k l b)
 

@@ -1,9 +1,11 @@
 -- A deal and the queue in the room.
-use Rattle.std.specs.Prelude.{◌≡◌, ℕ, ◌<◌, ◌≤◌, List, [], ◌∷◌, map, length, slice_index}
+use Rattle.std.specs.Prelude.{◌≡◌, ℕ, ◌<◌, ◌≤◌, List, [], ◌∷◌, map, length, Option, slice_index}
 use Rattle.lines.specs.declared.line.Line.{Line}
 use Rattle.lines.specs.declared.ring.Ring.{Ring}
 use Rattle.lines.specs.Tables.{deal_lines, queue_lines, DealIn, QueueIn}
+use Rattle.view.specs.declared.seen.Seen.{Seen}
 use Rattle.view.specs.declared.seen.View.{View}
+use Rattle.view.specs.Sight.{says}
 use Rattle.view.specs.Writes.{with_lines}
 use Rattle.view.specs.Upkeep.{change_by, kept_by}
 
@@ -16,6 +18,18 @@ queue_of w v = queue_lines w v.queue
 pub record Stands (w : List ℕ) (v : View) : Type 0 where
   pub own : DealIn w v.deal v.count
   pub queue : QueueIn w v.queue
+
+-- the lines that a deal sees: the queue's and its own
+pub record Said : Type 0 where
+  pub queue : List Line
+  pub own : List Line
+
+abbrev pub said_in : List ℕ → View → Said
+said_in w v = record { queue = queue_of w v; own = own_of w v }
+
+-- what they say of each key
+abbrev pub says_of : Said → ℕ → Option Seen
+says_of s j = says s.queue s.own j
 
 -- THE PAIRS AS A DEAL SEES THEM: the tree's, after the queue, after its own lines
 abbrev pub pairs_seen : List (ℕ × ℕ) → List ℕ → View → List (ℕ × ℕ)

@@ -5,7 +5,7 @@ use Rattle.node.specs.Pairs.{above}
 use Rattle.lines.specs.declared.line.Line.{Line}
 use Rattle.lines.specs.declared.line.Line.TheVariants.{Idle, Wrote, Cleared, Stale, Read, Scanned, Marked}
 use Rattle.view.specs.declared.kept.Change.{Change}
-use Rattle.view.specs.declared.kept.Change.TheVariants.{Gained, Lost, Still}
+use Rattle.view.specs.declared.kept.Change.TheVariants.{Gained, Lost}
 
 abbrev pub key_of : Option (ℕ × ℕ) → Option ℕ
 key_of None = None
@@ -24,22 +24,22 @@ abbrev pub lost : ℕ → Option ℕ → Option ℕ → Option ℕ
 lost t n None = None
 lost t n (Some s) = cond (s == t) n (Some s)
 
-abbrev pub kept_succ : Change → ℕ → Option ℕ → Option ℕ
-kept_succ (Gained m) k o = gained m k o
-kept_succ (Lost t n) k o = lost t n o
-kept_succ Still k o = o
+abbrev pub kept_succ : Option Change → ℕ → Option ℕ → Option ℕ
+kept_succ None k o = o
+kept_succ (Some (Gained m)) k o = gained m k o
+kept_succ (Some (Lost t n)) k o = lost t n o
 
--- what the tree gains or loses by a line
-abbrev pub change_by : Line → Change
-change_by Idle = Still
-change_by (Wrote k x) = Gained k
-change_by (Cleared k s) = Lost k s
-change_by (Stale k) = Still
-change_by (Read k) = Still
-change_by (Scanned k q) = Still
-change_by Marked = Still
+-- what the tree gains or loses by a line, if anything
+abbrev pub change_by : Line → Option Change
+change_by Idle = None
+change_by (Wrote k x) = Some (Gained k)
+change_by (Cleared k s) = Some (Lost k s)
+change_by (Stale k) = None
+change_by (Read k) = None
+change_by (Scanned k q) = None
+change_by Marked = None
 
-abbrev pub kept_by : Change → Line → Line
+abbrev pub kept_by : Option Change → Line → Line
 kept_by h Idle = Idle
 kept_by h (Wrote k x) = Wrote k x
 kept_by h (Cleared k o) = Cleared k (kept_succ h k o)

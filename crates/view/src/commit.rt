@@ -8,18 +8,14 @@ ghost use Rattle.view.specs.Writes.{with_lines};
 
 use crate::seen::View;
 use lines::line::Line;
-use lines::own::line_of;
+use lines::own::lines_of;
 use lines::queue::add_record;
 use lines::ring::Ring;
 
 fn is_write(line: Line) -> bool
     ensures { result ≡ is_write line }
 {
-    match line {
-        Line::Wrote(_, _) => true,
-        Line::Cleared(_, _) => true,
-        _ => false,
-    }
+    matches!(line, Line::Wrote(..) | Line::Cleared(..))
 }
 
 // Gives the longer queue, which then does to any tree what the deal did.
@@ -33,8 +29,9 @@ pub fn take_in(room: &mut [u64], view: View) -> Ring
     ensures succs { (t : List (ℕ × ℕ)) → SuccOk t (queue_of room.old view) → SuccOk t (own_of room.old view) → SuccOk t (queue_lines room.new result) }
 {
     let mut queue = view.queue;
+    // The records go into the room that the lines are read from, so no iterator can hold it meanwhile.
     for i in 0..view.count {
-        let line = line_of(room, view.deal, view.count, i);
+        let line = lines_of(room, view.deal, view.count).at(i);
         if is_write(line) {
             queue = add_record(room, queue, line);
         }

@@ -1,11 +1,12 @@
 // The tree, as far as deals see it, with what it keeps in the room behind the tables of lines.
-ghost use Rattle.std.specs.Prelude.{◌≡◌, ℕ, ◌+◌, ◌≤◌, Bool, true, List, length, is_ok, IfOk, OnOk};
+ghost use Rattle.std.specs.Prelude.{◌≡◌, ℕ, ◌≤◌, Bool, List, length, is_ok, IfOk, OnOk};
 ghost use Rattle.std.specs.Borrow.{GName};
 ghost use Rattle.lines.specs.Tables.{tables, behind};
 ghost use Rattle.node.specs.Pairs.{find, above, put_in, drop_in};
-ghost use Rattle.view.specs.Asks.{Asks, Spent};
+ghost use Rattle.view.specs.Asks.{Asks, ChangeSpent};
+ghost use Rattle.view.specs.Index.{Whole, Passes, Asked, MayChange};
 
-use tree::Gone;
+use pages::Gone;
 
 pub trait Index {
     // The pairs that it holds.
@@ -23,45 +24,39 @@ pub trait Index {
     fn get(&mut self, room: &mut [u64], k: u64) -> Result<Option<u64>, Gone>
         requires room { length room.old ≡ 262144 }
         requires asks { (budget self.old).get ≤ (budget self.old).left }
-        requires whole { (a : Self) × (w : List ℕ) × onto a w true self.old (behind room.old) }
+        requires whole { Whole onto self.old room.old }
         ensures told { IfOk result (λ o. o ≡ find k (pairs self.old (behind room.old))) }
-        ensures same { OnOk result (pairs self.new (behind room.new) ≡ pairs self.old (behind room.old)) }
-        ensures asked { OnOk result (Spent (budget self.old).get (budget self.old) (budget self.new)) }
+        ensures asked { OnOk result (Asked pairs budget (budget self.old).get self.old room.old self.new room.new) }
         ensures tables { tables room.new ≡ tables room.old }
-        ensures onto { (a : Self) (w : List ℕ) → onto a w true self.old (behind room.old) → onto a w (is_ok result) self.new (behind room.new) }
-        ensures tied { tie self.new ≡ tie self.old };
+        ensures passed { Passes onto tie (is_ok result) self.old room.old self.new room.new };
 
     // The first pair with a key above k.
     fn next(&mut self, room: &mut [u64], k: u64) -> Result<Option<(u64, u64)>, Gone>
         requires room { length room.old ≡ 262144 }
         requires asks { (budget self.old).next ≤ (budget self.old).left }
-        requires whole { (a : Self) × (w : List ℕ) × onto a w true self.old (behind room.old) }
+        requires whole { Whole onto self.old room.old }
         ensures told { IfOk result (λ o. o ≡ above k (pairs self.old (behind room.old))) }
-        ensures same { OnOk result (pairs self.new (behind room.new) ≡ pairs self.old (behind room.old)) }
-        ensures asked { OnOk result (Spent (budget self.old).next (budget self.old) (budget self.new)) }
+        ensures asked { OnOk result (Asked pairs budget (budget self.old).next self.old room.old self.new room.new) }
         ensures tables { tables room.new ≡ tables room.old }
-        ensures onto { (a : Self) (w : List ℕ) → onto a w true self.old (behind room.old) → onto a w (is_ok result) self.new (behind room.new) }
-        ensures tied { tie self.new ≡ tie self.old };
+        ensures passed { Passes onto tie (is_ok result) self.old room.old self.new room.new };
 
     // Puts the word x at k.
     fn put(&mut self, room: &mut [u64], k: u64, x: u64) -> Result<(), Gone>
         requires room { length room.old ≡ 262144 }
-        requires asks { ((budget self.old).change ≤ (budget self.old).left) × (ready self.old (behind room.old)) }
-        requires whole { (a : Self) × (w : List ℕ) × onto a w true self.old (behind room.old) }
+        requires asks { MayChange budget ready self.old room.old }
+        requires whole { Whole onto self.old room.old }
         ensures done { OnOk result (pairs self.new (behind room.new) ≡ put_in k x (pairs self.old (behind room.old))) }
-        ensures asked { OnOk result ((budget self.old).left ≤ (budget self.new).left + (budget self.old).change) }
+        ensures asked { OnOk result (ChangeSpent (budget self.old) (budget self.new)) }
         ensures tables { tables room.new ≡ tables room.old }
-        ensures onto { (a : Self) (w : List ℕ) → onto a w true self.old (behind room.old) → onto a w (is_ok result) self.new (behind room.new) }
-        ensures tied { tie self.new ≡ tie self.old };
+        ensures passed { Passes onto tie (is_ok result) self.old room.old self.new room.new };
 
     // Takes the pair at k out, if there is one.
     fn remove(&mut self, room: &mut [u64], k: u64) -> Result<(), Gone>
         requires room { length room.old ≡ 262144 }
-        requires asks { ((budget self.old).change ≤ (budget self.old).left) × (ready self.old (behind room.old)) }
-        requires whole { (a : Self) × (w : List ℕ) × onto a w true self.old (behind room.old) }
+        requires asks { MayChange budget ready self.old room.old }
+        requires whole { Whole onto self.old room.old }
         ensures done { OnOk result (pairs self.new (behind room.new) ≡ drop_in k (pairs self.old (behind room.old))) }
-        ensures asked { OnOk result ((budget self.old).left ≤ (budget self.new).left + (budget self.old).change) }
+        ensures asked { OnOk result (ChangeSpent (budget self.old) (budget self.new)) }
         ensures tables { tables room.new ≡ tables room.old }
-        ensures onto { (a : Self) (w : List ℕ) → onto a w true self.old (behind room.old) → onto a w (is_ok result) self.new (behind room.new) }
-        ensures tied { tie self.new ≡ tie self.old };
+        ensures passed { Passes onto tie (is_ok result) self.old room.old self.new room.new };
 }

@@ -8,4 +8,4 @@ pub mod kept;
 pub mod laws;
 pub mod look;
 pub mod seen;
-pub mod walk;
+pub mod sight;

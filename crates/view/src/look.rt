@@ -1,30 +1,19 @@
 // What a deal finds: in its own lines, in the queue, in the tree.
-ghost use Rattle.std.specs.Prelude.{◌≡◌, ℕ, ◌+◌, ◌≤◌, true, List, length, is_ok, IfOk, OnOk};
+ghost use Rattle.std.specs.Prelude.{◌≡◌, ◌+◌, ◌≤◌, length, is_ok, IfOk, OnOk};
 ghost use Rattle.lines.specs.declared.line.Line.TheVariants.{Cleared};
 ghost use Rattle.lines.specs.Tables.{tables, behind};
 ghost use Rattle.node.specs.Pairs.{find, above};
-ghost use Rattle.view.specs.Asks.{Spent};
+ghost use Rattle.view.specs.Index.{Whole, Passes, Asked};
 ghost use Rattle.view.specs.Room.{Stands, own_of, queue_of, pairs_seen};
-ghost use Rattle.view.specs.Sight.{settled_by, viewed};
+ghost use Rattle.view.specs.Sight.{viewed};
 ghost use Rattle.view.specs.Upkeep.{key_of, next_key, SuccOk};
 ghost use Rattle.view.specs.Writes.{Rising};
 
 use crate::index::Index;
-use crate::seen::{Seen, View, in_room};
-use crate::walk::onward;
+use crate::seen::View;
+use crate::sight::Sight;
 use lines::line::Line;
-use tree::Gone;
-
-// What is found by the lines alone; none where the tree is to be asked.
-fn settled(seen: Seen) -> Option<Option<u64>>
-    ensures { result ≡ settled_by seen }
-{
-    match seen {
-        Seen::There(x) => Some(Some(x)),
-        Seen::Away(_) => Some(None),
-        Seen::Unknown => None,
-    }
-}
+use pages::Gone;
 
 // The word at k as the deal sees it. One pass over its lines and the queue, and at most one `get`.
 pub fn look<D: Index>(
@@ -36,17 +25,15 @@ pub fn look<D: Index>(
     requires stands { Stands room.old view }
     requires up { Rising (D.pairs index.old (behind room.old)) }
     requires asks { (D.budget index.old).get ≤ (D.budget index.old).left }
-    requires whole { (a : D) × (w : List ℕ) × D.onto a w true index.old (behind room.old) }
+    requires whole { Whole D.onto index.old room.old }
     ensures found { IfOk result (λ o. o ≡ viewed (D.pairs index.old (behind room.old)) (queue_of room.old view) (own_of room.old view) k) }
     ensures told { IfOk result (λ o. o ≡ find k (pairs_seen (D.pairs index.old (behind room.old)) room.old view)) }
-    ensures same { OnOk result (D.pairs index.new (behind room.new) ≡ D.pairs index.old (behind room.old)) }
-    ensures asked { OnOk result (Spent (D.budget index.old).get (D.budget index.old) (D.budget index.new)) }
+    ensures asked { OnOk result (Asked D.pairs D.budget (D.budget index.old).get index.old room.old index.new room.new) }
     ensures tables { tables room.new ≡ tables room.old }
-    ensures onto { (a : D) (w : List ℕ) → D.onto a w true index.old (behind room.old) → D.onto a w (is_ok result) index.new (behind room.new) }
-    ensures tied { D.tie index.new ≡ D.tie index.old }
+    ensures passed { Passes D.onto D.tie (is_ok result) index.old room.old index.new room.new }
 {
-    match settled(in_room(room, view, k)) {
-        Some(found) => Ok(found),
+    match Sight::new(room, view).says(k) {
+        Some(seen) => Ok(seen.word()),
         None => index.get(room, k),
     }
 }
@@ -55,10 +42,7 @@ pub fn look<D: Index>(
 fn key_of(pair: Option<(u64, u64)>) -> Option<u64>
     ensures { result ≡ key_of pair }
 {
-    match pair {
-        Some((p, _)) => Some(p),
-        None => None,
-    }
+    pair.map(|(p, _)| p)
 }
 
 // The first key above k that the deal sees. Exactly one `next`, and no word of the disk for the keys that the room has dropped.
@@ -72,16 +56,14 @@ pub fn next_key<D: Index>(
     requires up { Rising (D.pairs index.old (behind room.old)) }
     requires succs { (SuccOk (D.pairs index.old (behind room.old)) (queue_of room.old view)) × (SuccOk (D.pairs index.old (behind room.old)) (own_of room.old view)) }
     requires asks { (D.budget index.old).next ≤ (D.budget index.old).left }
-    requires whole { (a : D) × (w : List ℕ) × D.onto a w true index.old (behind room.old) }
+    requires whole { Whole D.onto index.old room.old }
     ensures told { IfOk result (λ o. o ≡ next_key k (pairs_seen (D.pairs index.old (behind room.old)) room.old view)) }
-    ensures same { OnOk result (D.pairs index.new (behind room.new) ≡ D.pairs index.old (behind room.old)) }
-    ensures asked { OnOk result (Spent (D.budget index.old).next (D.budget index.old) (D.budget index.new)) }
+    ensures asked { OnOk result (Asked D.pairs D.budget (D.budget index.old).next index.old room.old index.new room.new) }
     ensures tables { tables room.new ≡ tables room.old }
-    ensures onto { (a : D) (w : List ℕ) → D.onto a w true index.old (behind room.old) → D.onto a w (is_ok result) index.new (behind room.new) }
-    ensures tied { D.tie index.new ≡ D.tie index.old }
+    ensures passed { Passes D.onto D.tie (is_ok result) index.old room.old index.new room.new }
 {
-    let pair = index.next(room, k)?;
-    Ok(onward(room, view, k, key_of(pair)))
+    let first = key_of(index.next(room, k)?);
+    Ok(Sight::new(room, view).onward(k, first))
 }
 
 // The first pair above k that the deal sees. One `next`, and at most one `get` for its word.
@@ -95,35 +77,29 @@ pub fn next_pair<D: Index>(
     requires up { Rising (D.pairs index.old (behind room.old)) }
     requires succs { (SuccOk (D.pairs index.old (behind room.old)) (queue_of room.old view)) × (SuccOk (D.pairs index.old (behind room.old)) (own_of room.old view)) }
     requires asks { (D.budget index.old).next + (D.budget index.old).get ≤ (D.budget index.old).left }
-    requires whole { (a : D) × (w : List ℕ) × D.onto a w true index.old (behind room.old) }
+    requires whole { Whole D.onto index.old room.old }
     ensures told { IfOk result (λ o. o ≡ above k (pairs_seen (D.pairs index.old (behind room.old)) room.old view)) }
-    ensures same { OnOk result (D.pairs index.new (behind room.new) ≡ D.pairs index.old (behind room.old)) }
-    ensures asked { OnOk result (Spent ((D.budget index.old).next + (D.budget index.old).get) (D.budget index.old) (D.budget index.new)) }
+    ensures asked { OnOk result (Asked D.pairs D.budget ((D.budget index.old).next + (D.budget index.old).get) index.old room.old index.new room.new) }
     ensures tables { tables room.new ≡ tables room.old }
-    ensures onto { (a : D) (w : List ℕ) → D.onto a w true index.old (behind room.old) → D.onto a w (is_ok result) index.new (behind room.new) }
-    ensures tied { D.tie index.new ≡ D.tie index.old }
+    ensures passed { Passes D.onto D.tie (is_ok result) index.old room.old index.new room.new }
 {
-    match next_key(index, room, view, k)? {
-        None => Ok(None),
-        Some(p) => match look(index, room, view, p)? {
-            Some(x) => Ok(Some((p, x))),
-            None => unreachable(),
-        },
-    }
+    let Some(p) = next_key(index, room, view, k)? else {
+        return Ok(None);
+    };
+    let word = look(index, room, view, p)?;
+    Ok(word.map(|x| (p, x)))
 }
 
 // A drop's line, as the tree is now. Exactly one `next`.
 pub fn drop_line<D: Index>(index: &mut D, room: &mut [u64], k: u64) -> Result<Line, Gone>
     requires room { length room.old ≡ 262144 }
     requires asks { (D.budget index.old).next ≤ (D.budget index.old).left }
-    requires whole { (a : D) × (w : List ℕ) × D.onto a w true index.old (behind room.old) }
+    requires whole { Whole D.onto index.old room.old }
     ensures told { IfOk result (λ l. l ≡ Cleared k (next_key k (D.pairs index.old (behind room.old)))) }
-    ensures same { OnOk result (D.pairs index.new (behind room.new) ≡ D.pairs index.old (behind room.old)) }
-    ensures asked { OnOk result (Spent (D.budget index.old).next (D.budget index.old) (D.budget index.new)) }
+    ensures asked { OnOk result (Asked D.pairs D.budget (D.budget index.old).next index.old room.old index.new room.new) }
     ensures tables { tables room.new ≡ tables room.old }
-    ensures onto { (a : D) (w : List ℕ) → D.onto a w true index.old (behind room.old) → D.onto a w (is_ok result) index.new (behind room.new) }
-    ensures tied { D.tie index.new ≡ D.tie index.old }
+    ensures passed { Passes D.onto D.tie (is_ok result) index.old room.old index.new room.new }
 {
-    let pair = index.next(room, k)?;
-    Ok(Line::Cleared(k, key_of(pair)))
+    let above = key_of(index.next(room, k)?);
+    Ok(Line::Cleared(k, above))
 }

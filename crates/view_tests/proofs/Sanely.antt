@@ -1,6 +1,7 @@
 -- The play stays sane: as a line is said, as a deal is made, as the tree only looks.
-use Rattle.std.proofs.Common.{◌≡◌, ℕ, ◌+◌, ◌<◌, ◌≤◌, List, [], ◌∷◌, ◌++◌, length, get_or, take, drop, set, replicate, sym, refl, ◌∙◌, subst, inl, inr, arith}
+use Rattle.std.proofs.Common.{◌≡◌, ℕ, ◌+◌, ◌<◌, ◌≤◌, List, [], ◌∷◌, ◌++◌, length, get_or, take, drop, set, replicate, sym, refl, ap, ◌∙◌, subst, inl, inr, arith}
 use Rattle.std.proofs.lemmas.List.{length-set, get_or-set_same, get_or-set_other, get_or-replicate, length-replicate}
+use Rattle.std.proofs.lemmas.List.{append-nil, drop_all, take_all}
 use Rattle.std.proofs.lemmas.Bool.{cases_eq}
 use Rattle.lines.specs.declared.line.Line.{Line}
 use Rattle.lines.specs.declared.line.Line.TheVariants.{Idle, Wrote, Cleared, Stale, Read, Scanned, Marked}
@@ -13,6 +14,7 @@ use Rattle.view.specs.declared.seen.View.{View}
 use Rattle.view.specs.Adds.{writing}
 use Rattle.view.specs.Room.{Counts, own_of}
 use Rattle.view.specs.Upkeep.{next_key, LineOk, SuccOk}
+use Rattle.view.specs.Writes.{with_lines}
 use Rattle.view.proofs.Filed.{length_own}
 use Rattle.view.proofs.Tabled.{queue_in_on}
 use Rattle.view.proofs.Upkeeps.{more_ok}
@@ -101,6 +103,17 @@ sane_on t u w v ns q e long same s =
 
 pub drop_ok : (t : Pairs) (k : ℕ) (l : Line) → l ≡ Cleared k (next_key k t) → LineOk t l
 drop_ok t k l e = subst (LineOk t) (sym e) refl
+
+-- what is written to the whole of a Vec's slice
+pub whole : (n : ℕ) (v w : List ℕ) → length v ≡ n → length w ≡ n → take n (v ++ drop (length v) w) ≡ v
+whole n v w a b = ap (take n) (ap (λ x. v ++ x) (drop_all (length v) w (omega arith)) ∙ append-nil v) ∙ take_all n v (omega arith)
+
+-- nobody sees another thing
+pub same_seen : (t u : Pairs) (a b : List Line) → u ≡ t → b ≡ a → with_lines u b ≡ with_lines t a
+same_seen t u a b e f = ap (λ x. with_lines x b) e ∙ ap (with_lines t) f
+
+pub nothing_seen : (t : Pairs) (w : List ℕ) (r : Ring) → t ≡ [] → r.count ≡ 0 → with_lines t (queue_lines w r) ≡ []
+nothing_seen t w r e z = ap (λ x. with_lines x (queue_lines w r)) e ∙ ap (with_lines []) (no_queue w r z)
 
 -- nothing is there yet
 pub sane_first : (w ns : List ℕ) (q : Ring) → length w ≡ 262144 → ns ≡ replicate 32 0 → q.cap ≡ 32768 → q.start ≡ 0 → q.count ≡ 0 → Sane [] w ns q

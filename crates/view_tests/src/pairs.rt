@@ -1,10 +1,10 @@
 // An index that keeps its pairs in a list. It asks no disk and keeps nothing in the room.
-ghost use Rattle.std.specs.Prelude.{◌≡◌, ◌<◌, ◌≤◌, [], vec_len, OnOk};
-ghost use Rattle.std.specs.List.{insert, remove};
+ghost use Rattle.std.specs.Prelude.{◌≡◌, ◌≤◌, [], vec_len, OnOk};
+ghost use Rattle.std.specs.List.{insert};
 ghost use Rattle.view_tests.specs.Play.{free};
 
-use crate::places::{is_at, pair_above, place_from, place_of, word_at};
-use tree::Gone;
+use crate::places::{pair_above, place_from, place_of, word_at};
+use pages::Gone;
 use view::index::Index;
 
 #[derive(Drop)]
@@ -17,18 +17,7 @@ fn insert(items: &mut Vec<(u64, u64)>, i: usize, pair: (u64, u64)) -> Result<(),
     requires { i ≤ vec_len items.old }
     ensures { OnOk result (items.new.items ≡ insert items.old.items i pair) }
 {
-    match items.insert(i, pair) {
-        Ok(()) => Ok(()),
-        Err(_) => Err(Gone),
-    }
-}
-
-fn replace(items: &mut Vec<(u64, u64)>, i: usize, pair: (u64, u64)) -> Result<(), Gone>
-    requires { i < vec_len items.old }
-    ensures { OnOk result (items.new.items ≡ insert (remove items.old.items i) i pair) }
-{
-    items.remove(i);
-    insert(items, i, pair)
+    items.insert(i, pair).map_err(|_| Gone)
 }
 
 impl Index for PairList {
@@ -43,25 +32,27 @@ impl Index for PairList {
     ghost tie = { λ _. [] };
 
     fn get(&mut self, room: &mut [u64], k: u64) -> Result<Option<u64>, Gone> {
-        Ok(word_at(self.items.as_slice(), k))
+        Ok(word_at(&self.items, k))
     }
 
     fn next(&mut self, room: &mut [u64], k: u64) -> Result<Option<(u64, u64)>, Gone> {
-        Ok(pair_above(self.items.as_slice(), k))
+        Ok(pair_above(&self.items, k))
     }
 
     fn put(&mut self, room: &mut [u64], k: u64, x: u64) -> Result<(), Gone> {
-        let i = place_from(self.items.as_slice(), k);
-        if is_at(self.items.as_slice(), i, k) {
-            replace(&mut self.items, i, (k, x))
-        } else {
-            insert(&mut self.items, i, (k, x))
+        match place_from(&self.items, k) {
+            Some(i) if self.items[i].0 == k => self.items[i] = (k, x),
+            Some(i) => insert(&mut self.items, i, (k, x))?,
+            None => {
+                let end = self.items.len();
+                insert(&mut self.items, end, (k, x))?;
+            }
         }
+        Ok(())
     }
 
     fn remove(&mut self, room: &mut [u64], k: u64) -> Result<(), Gone> {
-        let i = place_of(self.items.as_slice(), k);
-        if i < self.items.len() {
+        if let Some(i) = place_of(&self.items, k) {
             self.items.remove(i);
         }
         Ok(())

@@ -1,26 +1,53 @@
-// The steps of a play: a deal puts, drops, looks, is made; a record goes into the tree. Each keeps the play sane.
-ghost use Rattle.std.specs.Prelude.{◌≡◌, ℕ, ◌<◌, ◌≤◌, List, length, IfOk, OnOk};
+// A play: deals put, drop, look and are made; records go into the tree.
+ghost use Rattle.std.specs.Prelude.{◌≡◌, ℕ, ◌<◌, List, [], length, IfOk};
 ghost use Rattle.lines.specs.declared.ring.Ring.{Ring as RingOf};
-ghost use Rattle.lines.specs.Tables.{QueueIn};
+ghost use Rattle.lines.specs.Tables.{queue_lines};
 ghost use Rattle.view.specs.Room.{Counts};
 ghost use Rattle.view.specs.Upkeep.{LineOk};
 ghost use Rattle.view_tests.specs.Play.{Sane};
 
 use crate::pairs::PairList;
+use crate::show::{Entry, Stop, show};
 use lines::line::Line;
 use lines::own::add_line;
 use lines::ring::Ring;
-use lines::tables::{DEAL_LINES, QUEUE_LINES};
-use tree::Gone;
+use lines::tables::{DEAL_LINES, DEALS, QUEUE_LINES, ROOM_WORDS};
+use pages::Gone;
+use std::alloc::{AllocError, Global};
+use std::marker::Model;
 use view::apply::apply_front;
 use view::commit::take_in;
 use view::look::{drop_line, look, next_pair};
 use view::seen::View;
 
+// Clauses see the pairs that are found by the queue and the tree. Each step takes the play and gives it back: where the
+// power goes, the play is over.
+#[derive(Drop)]
+pub struct Play {
+    index: PairList,
+    room: Vec<u64>,
+    counts: [usize; DEALS],
+    queue: Ring,
+}
+
+impl Model for Play {
+    ghost use Rattle.std.specs.Prelude.{ℕ, List};
+    ghost use Rattle.lines.specs.Tables.{queue_lines};
+    ghost use Rattle.view.specs.Writes.{with_lines};
+    ghost use Rattle.view_tests.specs.Play.{Sane};
+
+    ghost Value = { List (ℕ × ℕ) };
+
+    ghost view = { λ p. with_lines p.index.items.items (queue_lines p.room.items p.queue) };
+
+    ghost invariant = { λ p. Sane p.index.items.items p.room.items p.counts p.queue };
+}
+
 // One line more, if there is room for it.
-pub fn say(room: &mut [u64], counts: &mut [usize], deal: usize, line: Line)
+fn say(room: &mut [u64], counts: &mut [usize], deal: usize, line: Line)
     requires { (Counts counts.old) × ((length room.old ≡ 262144) × (deal < 32)) }
-    ensures { (t : List (ℕ × ℕ)) (q : RingOf) → Sane t room.old counts.old q → LineOk t line → Sane t room.new counts.new q }
+    ensures sane { (t : List (ℕ × ℕ)) (q : RingOf) → Sane t room.old counts.old q → LineOk t line → Sane t room.new counts.new q }
+    ensures queue { (q : RingOf) → queue_lines room.new q ≡ queue_lines room.old q }
 {
     let count = counts[deal];
     if count < DEAL_LINES {
@@ -29,165 +56,148 @@ pub fn say(room: &mut [u64], counts: &mut [usize], deal: usize, line: Line)
     }
 }
 
-pub fn drop_key(
-    index: &mut PairList,
-    room: &mut [u64],
-    counts: &mut [usize],
-    queue: Ring,
-    deal: usize,
-    k: u64,
-) -> Result<(), Gone>
-    requires { (Sane index.old.items.items room.old counts.old queue) × (deal < 32) }
-    ensures { OnOk result (Sane index.new.items.items room.new counts.new queue) }
-{
-    let line = drop_line(index, room, k)?;
-    say(room, counts, deal, line);
-    Ok(())
-}
-
-// All that the deal wrote goes to the queue, if there is room; it has no lines then.
-pub fn make(room: &mut [u64], counts: &mut [usize], queue: Ring, deal: usize) -> Ring
-    requires { (Counts counts.old) × ((QueueIn room.old queue) × (deal < 32)) }
-    ensures { (t : List (ℕ × ℕ)) → Sane t room.old counts.old queue → Sane t room.new counts.new result }
-{
-    let count = counts[deal];
-    if queue.count + count > QUEUE_LINES {
-        return queue;
+impl Play {
+    // Nothing is there yet.
+    pub fn new(alloc: Global) -> Result<Play, AllocError>
+        ensures { IfOk result (λ p. p ≡ []) }
+    {
+        Ok(Play {
+            index: PairList {
+                items: Vec::new(alloc),
+            },
+            room: vec![in alloc; 0; ROOM_WORDS]?,
+            counts: [0; DEALS],
+            queue: Ring {
+                cap: QUEUE_LINES,
+                start: 0,
+                count: 0,
+            },
+        })
     }
-    let longer = take_in(room, View { deal, count, queue });
-    counts[deal] = 0;
-    longer
-}
 
-// The front record goes into the tree, if there is one.
-pub fn work(
-    index: &mut PairList,
-    room: &mut [u64],
-    counts: &[usize],
-    queue: Ring,
-) -> Result<Ring, Gone>
-    requires { Sane index.old.items.items room.old counts.now queue }
-    ensures { IfOk result (λ q. Sane index.new.items.items room.new counts.now q) }
-{
-    if queue.count == 0 {
-        return Ok(queue);
+    // A deal puts x at k. Others don't see it yet.
+    pub fn put(mut self, deal: usize, k: u64, x: u64) -> Play
+        requires { deal < 32 }
+        ensures { result ≡ self }
+    {
+        say(
+            self.room.as_mut_slice(),
+            &mut self.counts,
+            deal,
+            Line::Wrote(k, x),
+        );
+        self
     }
-    apply_front(index, room, counts, queue)
-}
 
-// What the deal sees at k.
-pub fn see(
-    index: &mut PairList,
-    room: &mut [u64],
-    counts: &[usize],
-    queue: Ring,
-    deal: usize,
-    k: u64,
-) -> Result<Option<u64>, Gone>
-    requires { (Sane index.old.items.items room.old counts.now queue) × (deal < 32) }
-    ensures { OnOk result (Sane index.new.items.items room.new counts.now queue) }
-{
-    let count = counts[deal];
-    let seen = look(index, room, View { deal, count, queue }, k)?;
-    Ok(seen)
-}
-
-// What it sees above k.
-pub fn see_next(
-    index: &mut PairList,
-    room: &mut [u64],
-    counts: &[usize],
-    queue: Ring,
-    deal: usize,
-    k: u64,
-) -> Result<Option<(u64, u64)>, Gone>
-    requires { (Sane index.old.items.items room.old counts.now queue) × (deal < 32) }
-    ensures { OnOk result (Sane index.new.items.items room.new counts.now queue) }
-{
-    let count = counts[deal];
-    let seen = next_pair(index, room, View { deal, count, queue }, k)?;
-    Ok(seen)
-}
-
-// All records go into the tree.
-pub fn work_all(
-    index: &mut PairList,
-    room: &mut [u64],
-    counts: &[usize],
-    queue: Ring,
-) -> Result<Ring, Gone>
-    requires { Sane index.old.items.items room.old counts.now queue }
-    ensures { IfOk result (λ q. Sane index.new.items.items room.new counts.now q) }
-{
-    let mut left = queue;
-    for _ in 0..queue.count {
-        left = work(index, room, counts, left)?;
+    // A deal drops k. Others don't see it yet.
+    pub fn drop_key(mut self, deal: usize, k: u64) -> Result<Play, Gone>
+        requires { deal < 32 }
+        ensures { IfOk result (λ p. p ≡ self) }
+    {
+        let line = drop_line(&mut self.index, self.room.as_mut_slice(), k)?;
+        say(self.room.as_mut_slice(), &mut self.counts, deal, line);
+        Ok(self)
     }
-    Ok(left)
-}
 
-// A deal puts x at k.
-pub fn put(
-    index: &PairList,
-    room: &mut [u64],
-    counts: &mut [usize],
-    queue: Ring,
-    deal: usize,
-    k: u64,
-    x: u64,
-)
-    requires { (Sane index.now.items.items room.old counts.old queue) × (deal < 32) }
-    ensures { Sane index.now.items.items room.new counts.new queue }
-{
-    say(room, counts, deal, Line::Wrote(k, x));
-}
-
-// A deal is made.
-pub fn commit(
-    index: &PairList,
-    room: &mut [u64],
-    counts: &mut [usize],
-    queue: Ring,
-    deal: usize,
-) -> Ring
-    requires { (Sane index.now.items.items room.old counts.old queue) × (deal < 32) }
-    ensures { Sane index.now.items.items room.new counts.new result }
-{
-    make(room, counts, queue, deal)
-}
-
-// A deal puts the keys 1 to n, each with itself, and is made.
-pub fn put_row(
-    index: &PairList,
-    room: &mut [u64],
-    counts: &mut [usize],
-    queue: Ring,
-    deal: usize,
-    n: u64,
-) -> Ring
-    requires { (Sane index.now.items.items room.old counts.old queue) × ((deal < 32) × (n < 2000)) }
-    ensures { Sane index.now.items.items room.new counts.new result }
-{
-    for k in 0..n {
-        put(index, room, counts, queue, deal, k + 1, k + 1);
+    // A deal is made: all that it wrote goes to the queue, if there is room; it has no lines then.
+    pub fn commit(mut self, deal: usize) -> Play
+        requires { deal < 32 }
+    {
+        let count = self.counts[deal];
+        if self.queue.count + count <= QUEUE_LINES {
+            let view = View {
+                deal,
+                count,
+                queue: self.queue,
+            };
+            self.queue = take_in(self.room.as_mut_slice(), view);
+            self.counts[deal] = 0;
+        }
+        self
     }
-    commit(index, room, counts, queue, deal)
-}
 
-// The keys 1 to n are dropped by a deal.
-pub fn drop_row(
-    index: &mut PairList,
-    room: &mut [u64],
-    counts: &mut [usize],
-    queue: Ring,
-    deal: usize,
-    n: u64,
-) -> Result<(), Gone>
-    requires { (Sane index.old.items.items room.old counts.old queue) × ((deal < 32) × (n < 2000)) }
-    ensures { OnOk result (Sane index.new.items.items room.new counts.new queue) }
-{
-    for k in 0..n {
-        drop_key(index, room, counts, queue, deal, k + 1)?;
+    // The front record goes into the tree, if there is one. Nobody sees another thing for it.
+    fn work(mut self) -> Result<Play, Gone>
+        ensures { IfOk result (λ p. p ≡ self) }
+    {
+        if self.queue.count > 0 {
+            self.queue = apply_front(
+                &mut self.index,
+                self.room.as_mut_slice(),
+                &self.counts,
+                self.queue,
+            )?;
+        }
+        Ok(self)
     }
-    Ok(())
+
+    // All records go into the tree.
+    pub fn work_all(self) -> Result<Play, Gone>
+        ensures { IfOk result (λ p. p ≡ self) }
+    {
+        let records = self.queue.count;
+        let mut play = self;
+        for _ in 0..records {
+            play = play.work()?;
+        }
+        Ok(play)
+    }
+
+    // Shows what the deal sees at k.
+    pub fn show_at(
+        mut self,
+        rt: &HostRuntime,
+        what: &str,
+        deal: usize,
+        k: u64,
+    ) -> Result<Play, Stop>
+        requires { deal < 32 }
+        ensures { IfOk result (λ p. p ≡ self) }
+    {
+        let view = View {
+            deal,
+            count: self.counts[deal],
+            queue: self.queue,
+        };
+        let word = look(&mut self.index, self.room.as_mut_slice(), view, k)?;
+        show(rt, what, word)?;
+        Ok(self)
+    }
+
+    // Shows what the deal sees above k.
+    pub fn show_above(
+        mut self,
+        rt: &HostRuntime,
+        what: &str,
+        deal: usize,
+        k: u64,
+    ) -> Result<Play, Stop>
+        requires { deal < 32 }
+        ensures { IfOk result (λ p. p ≡ self) }
+    {
+        let view = View {
+            deal,
+            count: self.counts[deal],
+            queue: self.queue,
+        };
+        let pair = next_pair(&mut self.index, self.room.as_mut_slice(), view, k)?;
+        show(rt, what, pair.map(Entry::from))?;
+        Ok(self)
+    }
+
+    // A deal puts the keys 1 to n, each with itself, and is made.
+    pub fn put_row(self, deal: usize, n: u64) -> Play
+        requires { deal < 32 }
+    {
+        (1..=n)
+            .fold(self, |play, k| play.put(deal, k, k))
+            .commit(deal)
+    }
+
+    // The keys 1 to n are dropped by a deal.
+    pub fn drop_row(self, deal: usize, n: u64) -> Result<Play, Gone>
+        requires { deal < 32 }
+    {
+        (1..=n).try_fold(self, |play, k| play.drop_key(deal, k))
+    }
 }

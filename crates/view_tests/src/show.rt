@@ -1,9 +1,9 @@
 // What is shown of a play, and why one stops.
+use pages::Gone;
 use std::alloc::AllocError;
-use std::io;
-use tree::Gone;
+use std::{fmt, io};
 
-#[derive(Drop)]
+#[derive(Debug, Drop)]
 pub enum Stop {
     Gone,
     Memory,
@@ -22,24 +22,42 @@ impl From<AllocError> for Stop {
     }
 }
 
-pub fn show(rt: &HostRuntime, what: &str, found: Option<u64>) -> Result<(), Stop> {
-    let printed = match found {
-        Some(x) => println!(rt; "{what}: {x}"),
-        None => println!(rt; "{what}: nothing"),
-    };
-    match printed {
-        Ok(()) => Ok(()),
-        Err(_) => Err(Stop::Output),
+impl From<io::Error> for Stop {
+    fn from(_failed: io::Error) -> Stop {
+        Stop::Output
     }
 }
 
-pub fn show_pair(rt: &HostRuntime, what: &str, found: Option<(u64, u64)>) -> Result<(), Stop> {
-    let printed = match found {
-        Some((k, x)) => println!(rt; "{what}: {k} has {x}"),
-        None => println!(rt; "{what}: nothing"),
-    };
-    match printed {
-        Ok(()) => Ok(()),
-        Err(_) => Err(Stop::Output),
+// A key and the word at it, as they are shown.
+#[derive(Clone, Copy)]
+pub struct Entry {
+    pub key: u64,
+    pub word: u64,
+}
+
+impl From<(u64, u64)> for Entry {
+    fn from(pair: (u64, u64)) -> Entry {
+        Entry {
+            key: pair.0,
+            word: pair.1,
+        }
     }
+}
+
+impl fmt::Display for Entry {
+    fn fmt<W: fmt::Write>(&self, f: &mut fmt::Formatter<W>) -> fmt::Result {
+        write!(f, "{} has {}", self.key, self.word)
+    }
+}
+
+pub fn show<T: fmt::Display + Copy>(
+    rt: &HostRuntime,
+    what: &str,
+    found: Option<T>,
+) -> Result<(), Stop> {
+    match found {
+        Some(seen) => println!(rt; "{what}: {seen}")?,
+        None => println!(rt; "{what}: nothing")?,
+    }
+    Ok(())
 }

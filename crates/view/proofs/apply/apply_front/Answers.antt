@@ -15,15 +15,15 @@ returns g c =
     let r = c.args.queue in
     let l = c.front_of-line.result.0 in
     let s = c.front_of-line.result.1 in
-    let h = c.in_ok-change.change in
+    let h = c.change_by-change.result in
     let d = c.work_in.new.index in
     let t = g.D.Index.pairs c.args.index.now (behind w) in
     let u = g.D.Index.pairs d (behind v) in
-    let e = c.in_ok-change.ensures in
+    let e = c.in_ok-work_in.ensures in
     let back : behind v ≡ behind x = c.keep_deals.ensures.behind ∙ c.keep_queue.ensures.only.behind in
     let tree : u ≡ with_lines t (l ∷ []) = ap (g.D.Index.pairs d) back ∙ e.done in
     let long : length v ≡ length w = c.keep_deals.auto.room ∙ (c.keep_queue.auto.room ∙ c.work_in.auto.room) in
-    let a = has_applied t u w x y v ns r s l h c.work_in.auto.room c.work_in.ensures.tables c.front_of-line.ensures.lines e.told tree c.keep_queue.ensures.lines c.keep_queue.ensures.only c.keep_deals.ensures.lines c.keep_deals.ensures.queue in
+    let a = has_applied t u w x y v ns r s l h c.work_in.auto.room c.work_in.ensures.tables c.front_of-line.ensures.lines c.change_by-change.ensures tree c.keep_queue.ensures.lines c.keep_queue.ensures.only c.keep_deals.ensures.lines c.keep_deals.ensures.queue in
     record {
       applied = a;
       pairs = applied_pairs t u w v ns r s a;
@@ -33,6 +33,5 @@ returns g c =
       queue = (queue_in_on w v s long c.front_of-line.ensures.queue.0, c.front_of-line.ensures.queue.1);
       gone = search rules;
       asked = e.asked;
-      onto = λ a o k. subst (g.D.Index.onto a o _ d) (sym back) (e.onto a o k);
-      tied = c.work_in.ensures.tied;
+      passed = record { onto = λ a o k. subst (g.D.Index.onto a o _ d) (sym back) (e.passed.onto a o k); tied = e.passed.tied };
     }

@@ -1,4 +1,4 @@
-use Rattle.std.proofs.Common.{ap, ◌∙◌, rules}
+use Rattle.std.proofs.Common.{ap, ◌∙◌}
 use Rattle.lines.specs.declared.line.Line.TheVariants.{Cleared}
 use Rattle.view.specs.Upkeep.{key_of, next_key}
 use Rattle.view.proofs.look.drop_line.Goals as goal
@@ -6,5 +6,5 @@ use Rattle.view.proofs.look.drop_line.Goals as goal
 pub returns : goal.returns
 unfolding next_key
 returns g c =
-    let e = c.in_ok-pair.ensures in
-    record { told = ap (Cleared c.args.k) (c.key_of.ensures ∙ ap key_of e.told); same = e.same; asked = e.asked; tables = c.next.ensures.tables; onto = search rules; tied = c.next.ensures.tied }
+    let e = c.in_ok-next.ensures in
+    record { told = ap (Cleared c.args.k) (c.key_of-above.ensures ∙ ap key_of e.told); asked = e.asked; tables = c.next.ensures.tables; passed = e.passed }

@@ -1,9 +1,13 @@
-use Rattle.std.proofs.Common.{sym, arith}
-use Rattle.view_tests.proofs.Spots.{above_at, above_no}
+use Rattle.std.proofs.Common.{ltb, sym, ◌∙◌, rules, tests}
+use Rattle.std.proofs.lemmas.Iterator.{YieldsList-from_slice}
+use Rattle.std.proofs.lemmas.Iterator.Consumers.{YieldsList-from_copied}
+use Rattle.std.proofs.lemmas.Iterator.Search.{find_from_yields_List}
+use Rattle.std.proofs.lemmas.Iterator.Adapters.{option_map_id}
+use Rattle.view_tests.proofs.Spots.{above_first}
 use Rattle.view_tests.proofs.places.pair_above.Goals as goal
 
-pub returns-then-i-items : goal.returns-then-i-items
-returns-then-i-items c = let e = c.place_above-i.ensures in sym (above_at c.args.k c.place_above-i.result c.args.items.now e.before (omega arith) (e.here (omega arith)))
-
-pub returns-else-i-items : goal.returns-else-i-items
-returns-else-i-items c = let e = c.place_above-i.ensures in sym (above_no c.args.k c.args.items.now (λ j h. e.before j (omega arith)))
+pub returns : goal.returns
+returns c =
+    sym (option_map_id c.find.result)
+    ∙ (find_from_yields_List (λ e. ltb c.args.k e.0) _ _ c.find.result c.find.ensures.ran (YieldsList-from_copied (YieldsList-from_slice c.args.items.now (cc))) (λ x b q k. search (rules, tests))
+    ∙ above_first c.args.k c.args.items.now)

@@ -1,28 +1,24 @@
-use Rattle.std.proofs.Common.{vec_items, refl, arith}
-use Rattle.std.proofs.lemmas.Result.{IfOk-weaker}
-use Rattle.view_tests.proofs.Spots.{put_replaced, put_inserted}
+use Rattle.std.proofs.Common.{◌≡◌, leb, length, sym, ap, ◌∙◌, arith}
+use Rattle.std.specs.List.{position, insert}
+use Rattle.view_tests.proofs.Spots.{put_replaced, put_inserted, put_last}
 use Rattle.view_tests.proofs.pairs.PairListIndex.put.Goals as goal
 
-pub returns-then-is_at : goal.returns-then-is_at
-returns-then-is_at c =
-    let e = c.place_from-i.ensures in
-    let t = vec_items c.args.self.now.items in
-    record {
-      done = IfOk-weaker c.replace.result _ _ (λ a h. put_replaced c.args.k c.args.x c.place_from-i.result c.as_slice.result.now c.as_slice-2.result.now t _ c.as_slice.ensures.value c.as_slice-2.ensures.value e.before (c.if-is_at.ensures.yes refl) h) c.replace.ensures;
-      asked = IfOk-weaker c.replace.result _ _ (λ a h. omega arith) c.replace.ensures;
-      tables = refl;
-      onto = λ a w h. tt;
-      tied = refl;
-    }
+pub returns-in-Some-clause-done : goal.returns-in-Some-clause-done
+returns-in-Some-clause-done c =
+    let k = c.args.k in
+    let e = ap (λ s. position (λ e. leb k e.0) s) (sym c.deref.ensures.value) ∙ (sym c.place_from.ensures ∙ c.in-Some.is) in
+    put_replaced k c.args.self.now.items.items c.in-Some.i e c.args.x c.index.result.now c.index.ensures c.if-index-k.true
 
-pub returns-else-is_at : goal.returns-else-is_at
-returns-else-is_at c =
-    let e = c.place_from-i.ensures in
-    let t = vec_items c.args.self.now.items in
-    record {
-      done = IfOk-weaker c.insert.result _ _ (λ a h. put_inserted c.args.k c.args.x c.place_from-i.result c.as_slice.result.now c.as_slice-2.result.now t _ c.as_slice.ensures.value c.as_slice-2.ensures.value e.before e.within e.here (c.if-is_at.ensures.no refl) h) c.insert.ensures;
-      asked = IfOk-weaker c.insert.result _ _ (λ a h. omega arith) c.insert.ensures;
-      tables = refl;
-      onto = λ a w h. tt;
-      tied = refl;
-    }
+pub returns-in_ok-insert-in-Some-2-clause-done : goal.returns-in_ok-insert-in-Some-2-clause-done
+returns-in_ok-insert-in-Some-2-clause-done c =
+    let k = c.args.k in
+    let e = ap (λ s. position (λ e. leb k e.0) s) (sym c.deref.ensures.value) ∙ (sym c.place_from.ensures ∙ c.in-Some.is) in
+    c.in_ok-insert-in-Some-2.ensures ∙ put_inserted k c.args.self.now.items.items c.in-Some.i e c.args.x c.index.result.now c.index.ensures c.if-index-k.false
+
+pub returns-in_ok-insert-in-None-clause-done : goal.returns-in_ok-insert-in-None-clause-done
+returns-in_ok-insert-in-None-clause-done c =
+    let t = c.args.self.now.items.items in
+    let k = c.args.k in
+    let e = ap (λ s. position (λ e. leb k e.0) s) (sym c.deref.ensures.value) ∙ (sym c.place_from.ensures ∙ c.in-None.is) in
+    let end : c.len-end.result ≡ length t = omega arith in
+    c.in_ok-insert-in-None.ensures ∙ (ap (λ n. insert t n (k, c.args.x)) end ∙ put_last k t c.args.x e)

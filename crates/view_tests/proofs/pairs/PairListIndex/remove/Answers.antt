@@ -1,32 +1,16 @@
-use Rattle.std.proofs.Common.{ℕ, List, sym, refl, ap, ◌∙◌, arith, rules}
-use Rattle.std.specs.List.{remove}
-use Rattle.node.specs.Pairs.{drop_in}
-use Rattle.view_tests.proofs.Spots.{drop_at_lem, drop_no}
+use Rattle.std.proofs.Common.{eqb, sym, ap, ◌∙◌}
+use Rattle.std.specs.List.{position}
+use Rattle.view_tests.proofs.Spots.{dropped, dropped_none}
 use Rattle.view_tests.proofs.pairs.PairListIndex.remove.Goals as goal
 
-pub returns-then-i-len : goal.returns-then-i-len
-returns-then-i-len c =
-    let e = c.place_of-i.ensures in
-    let i = c.place_of-i.result in
-    let s = c.as_slice.result.now in
-    let v = c.as_slice.ensures.value in
-    record {
-      done = c.remove.ensures.items ∙ (ap (λ (x : List (ℕ × ℕ)). remove x i) (sym v) ∙ (sym (drop_at_lem c.args.k i s e.before (omega arith) (e.here (omega arith))) ∙ ap (drop_in c.args.k) v));
-      asked = search rules;
-      tables = refl;
-      onto = λ a w h. tt;
-      tied = refl;
-    }
+pub returns-in-Some-clause-done : goal.returns-in-Some-clause-done
+returns-in-Some-clause-done c =
+    let t = c.args.self.now.items.items in
+    let k = c.args.k in
+    c.remove.ensures.items ∙ dropped k t c.in-Some.i (ap (λ s. position (λ e. eqb e.0 k) s) (sym c.deref.ensures.value) ∙ (sym c.place_of.ensures ∙ c.in-Some.is))
 
-pub returns-else-i-len : goal.returns-else-i-len
-returns-else-i-len c =
-    let e = c.place_of-i.ensures in
-    let s = c.as_slice.result.now in
-    let v = c.as_slice.ensures.value in
-    record {
-      done = sym v ∙ (sym (drop_no c.args.k s (λ j h. e.before j (omega arith))) ∙ ap (drop_in c.args.k) v);
-      asked = search rules;
-      tables = refl;
-      onto = λ a w h. tt;
-      tied = refl;
-    }
+pub returns-in_default-clause-done : goal.returns-in_default-clause-done
+returns-in_default-clause-done c =
+    let t = c.args.self.now.items.items in
+    let k = c.args.k in
+    dropped_none k t (ap (λ s. position (λ e. eqb e.0 k) s) (sym c.deref.ensures.value) ∙ (sym c.place_of.ensures ∙ c.in_default.is))

@@ -1,6 +1,0 @@
-use Rattle.std.proofs.Common.{vec_items}
-use Rattle.view_tests.specs.Play.{Sane}
-use Rattle.view_tests.proofs.play.drop_row.Given as goal
-
-abbrev pub invariant-loop-k : goal.invariant-loop-k
-invariant-loop-k l = Sane (vec_items l.index.items) l.room l.counts l.queue
