@@ -1,59 +1,76 @@
 // Those who have asked, in the order in which they did.
 ghost use Rattle.std.specs.Prelude.{◌≡◌, ◌+◌, ◌-◌, ◌<◌, ◌≤◌, [], ◌∷◌, ◌++◌, length, take, slice_index};
 ghost use Rattle.std.specs.List.{remove};
-ghost use Rattle.deals.specs.Tables.{Sound, OnlyOrder, waiting_in, order_of};
+ghost use Rattle.deals.specs.Tables.{OnlyOrder, waiting_in, order_of};
 
-use super::layout::{ORDER_AT, ORDER_END, WAITING_AT};
+use super::layout::{ORDER_AT, WAITING_AT};
+use super::tables::{Tables, TablesMut};
+use clerk::Clerk;
 
-// How many have asked.
-pub fn waiting(room: &[u64]) -> usize
-    requires { Sound room.now }
-    ensures { (result ≡ length (order_of room.now)) × (result ≡ waiting_in room.now) }
-{
-    room[WAITING_AT] as usize
+impl<'a> Tables<'a> {
+    // How many have asked.
+    pub fn waiting(&self) -> usize
+        ensures long { result ≡ length (order_of self.now.room.now) }
+        ensures is { result ≡ waiting_in self.now.room.now }
+    {
+        self.room[WAITING_AT] as usize
+    }
+
+    // Their numbers.
+    pub(crate) fn order(&self) -> &[u64]
+        ensures { result.now ≡ order_of self.now.room.now }
+    {
+        let n = self.waiting();
+        &self.room[ORDER_AT..ORDER_AT + n]
+    }
+
+    // Who stands at place i.
+    pub fn who_at(&self, i: usize) -> Clerk
+        requires { i < waiting_in self.now.room.now }
+        ensures { result ≡ slice_index (order_of self.now.room.now) i }
+    {
+        Clerk::new(self.room[ORDER_AT + i] as u32)
+    }
 }
 
-// Who stands at place i.
-pub fn who_at(room: &[u64], i: usize) -> u32
-    requires { (Sound room.now) × (i < waiting_in room.now) }
-    ensures { (result ≡ slice_index (order_of room.now) i) × (result < 32) }
-{
-    room[ORDER_AT + i] as u32
-}
-
-fn stand_last(order: &mut [u64], n: usize, who: u32)
+// One more stands behind the first n.
+fn stand_last(order: &mut [u64], n: usize, who: Clerk)
     requires { n < length order.old }
     ensures { take (n + 1) order.new ≡ take n order.old ++ who ∷ [] }
 {
-    order[n] = who as u64;
+    order[n] = u64::from(who.number());
 }
 
+// The one at this place of the first n is gone.
 fn close_up(order: &mut [u64], n: usize, place: usize)
     requires { (n ≤ length order.old) × (place < n) }
     ensures { take (n - 1) order.new ≡ remove (take n order.old) place }
 {
-    let part = &mut order[place..n];
-    part.rotate_left(1);
+    order[place..n].rotate_left(1);
 }
 
-// One has asked, and stands last.
-pub fn join(room: &mut [u64], who: u32)
-    requires { (Sound room.old) × ((who < 32) × (waiting_in room.old < 32)) }
-    ensures order { order_of room.new ≡ order_of room.old ++ who ∷ [] }
-    ensures others { OnlyOrder room.old room.new }
-{
-    let n = room[WAITING_AT];
-    stand_last(&mut room[ORDER_AT..ORDER_END], n as usize, who);
-    room[WAITING_AT] = n + 1;
-}
+impl<'a> TablesMut<'a> {
+    // One has asked, and stands last.
+    pub fn join(&mut self, who: Clerk)
+        requires { waiting_in self.old.room.now < 32 }
+        ensures lent { self.new.room.ghost_name ≡ self.old.room.ghost_name }
+        ensures order { order_of self.new.room.now ≡ order_of self.old.room.now ++ who ∷ [] }
+        ensures others { OnlyOrder self.old.room.now self.new.room.now }
+    {
+        let n = self.room[WAITING_AT];
+        stand_last(&mut self.room[ORDER_AT..WAITING_AT], n as usize, who);
+        self.room[WAITING_AT] = n + 1;
+    }
 
-// The one at this place is served, and the others close up.
-pub fn leave(room: &mut [u64], place: usize)
-    requires { (Sound room.old) × (place < waiting_in room.old) }
-    ensures order { order_of room.new ≡ remove (order_of room.old) place }
-    ensures others { OnlyOrder room.old room.new }
-{
-    let n = room[WAITING_AT];
-    close_up(&mut room[ORDER_AT..ORDER_END], n as usize, place);
-    room[WAITING_AT] = n - 1;
+    // The one at this place is served, and the others close up.
+    pub fn leave(&mut self, place: usize)
+        requires { place < waiting_in self.old.room.now }
+        ensures lent { self.new.room.ghost_name ≡ self.old.room.ghost_name }
+        ensures order { order_of self.new.room.now ≡ remove (order_of self.old.room.now) place }
+        ensures others { OnlyOrder self.old.room.now self.new.room.now }
+    {
+        let n = self.room[WAITING_AT];
+        close_up(&mut self.room[ORDER_AT..WAITING_AT], n as usize, place);
+        self.room[WAITING_AT] = n - 1;
+    }
 }

@@ -1,0 +1,39 @@
+// The clerks' tables in the room, lent for as long as they are read or changed.
+ghost use Rattle.std.specs.Prelude.{◌≡◌, ◌≤◌};
+ghost use Rattle.deals.specs.Tables.{Sound, count_at};
+
+use super::layout::COUNTS_AT;
+use clerk::Clerk;
+
+// Lent to be read.
+#[derive(Clone, Copy)]
+pub struct Tables<'a> {
+    pub room: &'a [u64],
+    ghost sound: { Sound room.now },
+}
+
+// Lent to be changed.
+#[derive(Drop)]
+pub struct TablesMut<'a> {
+    pub room: &'a mut [u64],
+    ghost sound: { Sound room.now },
+}
+
+impl<'a> Tables<'a> {
+    // How many lines the clerk's deal has.
+    pub(crate) fn count(&self, c: Clerk) -> usize
+        ensures is { result ≡ count_at self.now.room.now c }
+        ensures few { result ≤ 1024 }
+    {
+        self.room[COUNTS_AT + c.index()] as usize
+    }
+}
+
+impl<'a> TablesMut<'a> {
+    // As they stand, to be read.
+    pub fn read(&self) -> Tables<'_>
+        ensures { result.room.now ≡ self.now.room.now }
+    {
+        Tables { room: &*self.room }
+    }
+}
