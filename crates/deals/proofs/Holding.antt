@@ -10,7 +10,7 @@ use Rattle.deals.specs.Tables.{count_at, op_at, waiting_in, order_of, is_under, 
 use Rattle.deals.specs.LineUps.{LineUp, TablesHold, Served, Picked}
 use Rattle.deals.proofs.Offs.{off_kept, kept_op, kept_lines, kept_order, kept_rest}
 use Rattle.deals.proofs.Desks.{keeps_same, desk_like}
-use Rattle.deals.proofs.Orders.{order_long}
+use Rattle.deals.proofs.Orders.{order_long, last_few}
 use Rattle.deals.proofs.Ages.{set_same, set_other, under_older, line_room, line_asks, line_served, line_none, line_turns, line_tells, line_young}
 
 -- three words of what is asked are written
@@ -71,19 +71,21 @@ asks_aged can room s i e l u =
 pub same_deal : (s : State) (c : ℕ) (n : Now) (e : ℕ) → (s.clerk e).deal ≡ ((set_clerk c (s.clerk c).deal n s).clerk e).deal
 same_deal s c n e = elim (cases_eq e c) [ inl q ↦ rw (eq-eqb e c q, q) | inr h ↦ rw (ne_eqb e c h) ]
 
-module _ (can : Op → Bool) (room : List ℕ) (s : State) (c : ℕ) (i : TablesHold can true room s) (l : c < 32) (z : (s.clerk c).now' ≡ Quiet) where
-  -- there is room for one more
-  pub holds_room : waiting_in room < 32
-  holds_room = omega (arith, order_long room i.sound, line_room can s (order_of room) c (op_at room c) i.line l z)
+-- there is room for one more
+pub holds_room : (can : Op → Bool) (room : List ℕ) (s : State) (c : ℕ) → TablesHold can true room s → c < 32 → (s.clerk c).now' ≡ Quiet → waiting_in room < 32
+holds_room can room s c i l z = omega (arith, order_long room i.sound, line_room can s (order_of room) c (op_at room c) i.line l z)
 
-  pub holds_asks : (mid then : List ℕ) (o : Op) → op_at mid c ≡ o → OnlyAsk c room mid → order_of then ≡ order_of mid ++ c ∷ [] → OnlyOrder mid then → TablesHold can true then (set_clerk c (s.clerk c).deal (Under o 0) s)
-  holds_asks mid then o is asked order stood =
-      record {
-        sound = stood.sound;
-        desk = desk_like then s (set_clerk c (s.clerk c).deal (Under o 0) s) (same_deal s c (Under o 0)) (stood.deals s (asked.deals s i.desk));
-        asks = asks_like mid then (set_clerk c (s.clerk c).deal (Under o 0) s) stood.ops (asks_asked room mid s c (s.clerk c).deal o is asked.ops i.asks);
-        line = subst (LineUp can true (set_clerk c (s.clerk c).deal (Under o 0) s)) (sym (order ∙ ap (λ q. q ++ c ∷ []) asked.order)) (line_asks can s (order_of room) c o i.line l z);
-      }
+pub holds_asks : (can : Op → Bool) (room : List ℕ) (s : State) (c : ℕ) → TablesHold can true room s → (s.clerk c).now' ≡ Quiet
+    → (mid then : List ℕ) (o : Op) → op_at mid c ≡ o → OnlyAsk c room mid → order_of then ≡ order_of mid ++ c ∷ [] → OnlyOrder mid then → TablesHold can true then (set_clerk c (s.clerk c).deal (Under o 0) s)
+holds_asks can room s c i z mid then o is asked order stood =
+    record {
+      sound = stood.sound;
+      desk = desk_like then s (set_clerk c (s.clerk c).deal (Under o 0) s) (same_deal s c (Under o 0)) (stood.deals s (asked.deals s i.desk));
+      asks = asks_like mid then (set_clerk c (s.clerk c).deal (Under o 0) s) stood.ops (asks_asked room mid s c (s.clerk c).deal o is asked.ops i.asks);
+      line =
+          subst (LineUp can true (set_clerk c (s.clerk c).deal (Under o 0) s)) (sym (order ∙ ap (λ q. q ++ c ∷ []) asked.order))
+          (line_asks can s (order_of room) c o i.line (last_few then (order_of mid) c stood.sound order) z);
+    }
 
 -- ONE IS SERVED; b, d: the book and its deal then
 over_idle : (o : Op) (a : Answer) (g : ℕ) → is_under (Over o a g) ≡ false

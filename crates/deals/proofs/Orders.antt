@@ -1,5 +1,5 @@
 -- The order of asking as words of the room.
-use Rattle.std.proofs.Common.{◌≡◌, ℕ, ◌+◌, ◌*◌, ◌<◌, ◌≤◌, List, [], ◌∷◌, ◌++◌, length, get_or, take, drop, set, sym, refl, ap, ◌∙◌, ap₂, inl, inr, arith}
+use Rattle.std.proofs.Common.{◌≡◌, ℕ, ◌+◌, ◌-◌, ◌*◌, ◌<◌, ◌≤◌, List, [], ◌∷◌, ◌++◌, length, get_or, take, drop, set, sym, refl, ap, ◌∙◌, ap₂, inl, inr, arith}
 use borrow.Rule.Slice.PartMut.{put_mid}
 use Rattle.std.specs.List.{remove}
 use Rattle.std.proofs.lemmas.List.{get_or-set_same, get_or-take, get_or-drop, length-take-le, length-drop, get_or_push, get_or_append_left, length_push}
@@ -23,6 +23,12 @@ order_at room k i h = get_or-take (waiting_in room) (take 32 (drop 259712 room))
 -- all in the order are clerks
 pub order_few : (room : List ℕ) → Sound room → (k : ℕ) → k < length (order_of room) → get_or (order_of room) k 0 < 32
 order_few room i k h = let l : k < waiting_in room = omega (arith, order_long room i) in rw (order_at room k i l) (i.few k l)
+
+-- who stands last is one
+pub last_few : (room q : List ℕ) (c : ℕ) → Sound room → order_of room ≡ q ++ c ∷ [] → c < 32
+last_few room q c i e =
+    let long : length q < length (order_of room) = omega (arith, ap length e, length_push q c) in
+    rw (ap (λ x. get_or x (length q) 0) e ∙ get_or_push q c 0 (length q) refl) at (order_few room i (length q) long)
 
 pub push_few : (q : List ℕ) (c : ℕ) → ((k : ℕ) → k < length q → get_or q k 0 < 32) → c < 32 → (k : ℕ) → k < length (q ++ c ∷ []) → get_or (q ++ c ∷ []) k 0 < 32
 push_few q c h l k g = elim (cases_lt k (length q)) [ inl x ↦ rw (get_or_append_left q (c ∷ []) 0 k x) (h k x) | inr x ↦ rw (get_or_push q c 0 k (omega (arith, length_push q c))) l ]
@@ -83,16 +89,28 @@ module _ (r y : List ℕ) (m : ℕ) (q : List ℕ) (i : Sound r) (long : length 
         few = λ k h. let l : k < m = omega (arith, count_is) in rw (word_is k l) (few k (omega arith));
       }
 
-  pub order_is : order_of (set (put_mid 259712 32 r y) 259744 m) ≡ q
+  pub stands : (order_of (set (put_mid 259712 32 r y) 259744 m) ≡ q) × OnlyOrder r (set (put_mid 259712 32 r y) 259744 m)
   unfolding last then
-  order_is = order_last
+  stands = (
+    order_last,
+    record {
+      sound = sound_last;
+      ops = λ c h. kept_op r last c (elsewhere (259584 + 3 * c) 3 (omega arith));
+      deals = λ s d c h. keeps_same r last c (s.clerk c).deal (count_same c h) (kept_lines r last c same_length (elsewhere (3072 * c) 3072 (omega arith)) (count_same c h)) (d c h);
+      rest = kept_rest r last same_length (elsewhere 98304 161280 (omega arith));
+    },
+  )
 
-  pub only_order : OnlyOrder r (set (put_mid 259712 32 r y) 259744 m)
-  unfolding last then
-  only_order =
-      record {
-        sound = sound_last;
-        ops = λ c h. kept_op r last c (elsewhere (259584 + 3 * c) 3 (omega arith));
-        deals = λ s d c h. keeps_same r last c (s.clerk c).deal (count_same c h) (kept_lines r last c same_length (elsewhere (3072 * c) 3072 (omega arith)) (count_same c h)) (d c h);
-        rest = kept_rest r last same_length (elsewhere 98304 161280 (omega arith));
-      }
+-- one more stands last, and one is gone
+pub joined : (r y : List ℕ) (who : ℕ) → Sound r → who < 32 → waiting_in r < 32 → length y ≡ 32 → take (waiting_in r + 1) y ≡ take (waiting_in r) (take 32 (drop 259712 r)) ++ who ∷ []
+    → (order_of (set (put_mid 259712 32 r y) 259744 (waiting_in r + 1)) ≡ order_of r ++ who ∷ []) × OnlyOrder r (set (put_mid 259712 32 r y) 259744 (waiting_in r + 1))
+unfolding order_of
+joined r y who i few most long is =
+    stands r y (waiting_in r + 1) (order_of r ++ who ∷ []) i long is (length_push (order_of r) who ∙ ap (λ n. n + 1) (order_long r i)) (omega arith) (push_few (order_of r) who (order_few r i) few)
+
+pub left : (r y : List ℕ) (place : ℕ) → Sound r → place < waiting_in r → length y ≡ 32 → take (waiting_in r - 1) y ≡ remove (take (waiting_in r) (take 32 (drop 259712 r))) place
+    → (order_of (set (put_mid 259712 32 r y) 259744 (waiting_in r - 1)) ≡ remove (order_of r) place) × OnlyOrder r (set (put_mid 259712 32 r y) 259744 (waiting_in r - 1))
+unfolding order_of
+left r y place i h long is =
+    let here : place < length (order_of r) = omega (arith, order_long r i) in
+    stands r y (waiting_in r - 1) (remove (order_of r) place) i long is (omega (arith, length-remove (order_of r) place here, order_long r i)) (omega (arith, i.most)) (removed_few (order_of r) place here (order_few r i))

@@ -1,5 +1,5 @@
 -- For whom a clerk waits, by the tables.
-use Rattle.std.proofs.Common.{◌≡◌, ℕ, ◌*◌, ◌<◌, Bool, true, false, not, ◌&&◌, ◌||◌, eqb, ltb, List, take, drop, Option, sym, refl, ap, ◌∙◌, inl, inr}
+use Rattle.std.proofs.Common.{◌≡◌, ℕ, ◌*◌, ◌<◌, Bool, true, false, not, ◌&&◌, ◌||◌, eqb, ltb, List, take, drop, Option, sym, refl, ap, ap₂, ◌∙◌, inl, inr}
 use Rattle.lines.specs.Rings.{lines_of}
 use Rattle.lines.specs.Tables.{deal_ring, deal_lines}
 use Rattle.std.proofs.lemmas.Bool.{cases_lt, le-ltb, and_left, and_right}
@@ -34,6 +34,13 @@ finds_any Undo a f h = tt
 pub comes_is : (can : Op → Bool) (room : List ℕ) (s : State) (c : ℕ) (o : Op) → Keeps room c (s.clerk c).deal → (can o && (ends o || ltb (count_at room c) 1024)) ≡ comes_to can o (s.clerk c).deal
 comes_is can room s c o i = ap (λ n. can o && (ends o || ltb n 1024)) i.count
 
+-- the test, on what stands in the tables
+pub comes_at : (can : Op → Bool) (room : List ℕ) (c : ℕ) (o : Op) (n : ℕ) (b : Bool) → o ≡ op_at room c → n ≡ count_at room c → b ≡ (can o && (ends o || ltb n 1024)) → (can (op_at room c) && (ends (op_at room c) || ltb (count_at room c) 1024)) ≡ b
+comes_at can room c o n b is few e = sym (e ∙ ap₂ (λ p m. can p && (ends p || ltb m 1024)) is few)
+
+pub comes_by : (can : Op → Bool) (room : List ℕ) (s : State) (c : ℕ) (o : Op) (n : ℕ) (b : Bool) → Keeps room c (s.clerk c).deal → o ≡ op_at room c → n ≡ count_at room c → b ≡ (can o && (ends o || ltb n 1024)) → comes_to can (op_at room c) (s.clerk c).deal ≡ b
+comes_by can room s c o n b i is few e = sym (comes_is can room s c (op_at room c) i) ∙ comes_at can room c o n b is few e
+
 and_true : (x : Bool) → (x && true) ≡ x
 and_true true = refl
 and_true false = refl
@@ -67,7 +74,3 @@ module _ (can : Op → Bool) (room : List ℕ) (s : State) (c : ℕ) (d : Desk r
   waits_none e k =
       and_right (ltb k 32) (waits can s c k)
       (waits_by k ∙ and_left (not (eqb c k) && comes_to can o (s.clerk c).deal) (barred o (told o (s.clerk c).deal s.book) (s.clerk k).deal) (and_right (not (eqb c k)) (comes_to can o (s.clerk c).deal) (sym (comes_is can room s c o (d c few)) ∙ e)))
-
--- the test on an op that is the clerk's
-pub comes_by : (can : Op → Bool) (room : List ℕ) (s : State) (c : ℕ) (o : Op) (b : Bool) → Keeps room c (s.clerk c).deal → o ≡ op_at room c → b ≡ (can o && (ends o || ltb (count_at room c) 1024)) → comes_to can (op_at room c) (s.clerk c).deal ≡ b
-comes_by can room s c o b i e f = sym (comes_is can room s c (op_at room c) i) ∙ sym (ap (λ p. can p && (ends p || ltb (count_at room c) 1024)) e) ∙ sym f

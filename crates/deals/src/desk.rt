@@ -49,10 +49,12 @@ impl<'a> TablesMut<'a> {
         ensures deals { (s : State) (n : Now) → Desk self.old.room.now s → Desk self.new.room.now (set_clerk c ((s.clerk c).deal ++ record { op = o; told = a } ∷ []) n s) }
         ensures others { OnlyDeals self.old.room.now self.new.room.now }
     {
-        let n = self.read().count(c);
-        let at = DEAL_WORDS * c.index();
-        note(&mut self.room[at..at + DEAL_WORDS], n, o, a, above);
-        self.room[COUNTS_AT + c.index()] = n as u64 + 1;
+        let room = &mut *self.room;
+        let deal = c.index();
+        let n = room[COUNTS_AT + deal];
+        let at = DEAL_WORDS * deal;
+        note(&mut room[at..at + DEAL_WORDS], n as usize, o, a, above);
+        room[COUNTS_AT + deal] = n + 1;
     }
 
     // The clerk's deal is over.

@@ -34,11 +34,11 @@ impl<'a> Tables<'a> {
 }
 
 // One more stands behind the first n.
-fn stand_last(order: &mut [u64], n: usize, who: Clerk)
+fn stand_last(order: &mut [u64], n: usize, who: u32)
     requires { n < length order.old }
     ensures { take (n + 1) order.new ≡ take n order.old ++ who ∷ [] }
 {
-    order[n] = u64::from(who.number());
+    order[n] = u64::from(who);
 }
 
 // The one at this place of the first n is gone.
@@ -57,9 +57,10 @@ impl<'a> TablesMut<'a> {
         ensures order { order_of self.new.room.now ≡ order_of self.old.room.now ++ who ∷ [] }
         ensures others { OnlyOrder self.old.room.now self.new.room.now }
     {
-        let n = self.room[WAITING_AT];
-        stand_last(&mut self.room[ORDER_AT..WAITING_AT], n as usize, who);
-        self.room[WAITING_AT] = n + 1;
+        let room = &mut *self.room;
+        let n = room[WAITING_AT];
+        stand_last(&mut room[ORDER_AT..WAITING_AT], n as usize, who.number());
+        room[WAITING_AT] = n + 1;
     }
 
     // The one at this place is served, and the others close up.
@@ -69,8 +70,9 @@ impl<'a> TablesMut<'a> {
         ensures order { order_of self.new.room.now ≡ remove (order_of self.old.room.now) place }
         ensures others { OnlyOrder self.old.room.now self.new.room.now }
     {
-        let n = self.room[WAITING_AT];
-        close_up(&mut self.room[ORDER_AT..WAITING_AT], n as usize, place);
-        self.room[WAITING_AT] = n - 1;
+        let room = &mut *self.room;
+        let n = room[WAITING_AT];
+        close_up(&mut room[ORDER_AT..WAITING_AT], n as usize, place);
+        room[WAITING_AT] = n - 1;
     }
 }

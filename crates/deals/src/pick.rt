@@ -18,6 +18,7 @@ use locks::way::{Want, in_way};
 
 impl Op {
     // Is it built. This is the one place that says so.
+    #[tactic(auto, unfolding(crate::specs::Deals::core))]
     pub fn is_built(self) -> bool
         ensures { result ≡ can self }
     {
@@ -25,6 +26,7 @@ impl Op {
     }
 
     // Does it end the deal.
+    #[tactic(auto, unfolding(crate::specs::Deals::ends))]
     pub fn is_end(self) -> bool
         ensures { result ≡ ends self }
     {
@@ -89,7 +91,7 @@ impl<'a> Tables<'a> {
     {
         let o = self.read_op(c);
         match o {
-            Op::Next(k) if o.comes_to(self.count(c)) => Some(k),
+            Op::Next(k) => o.comes_to(self.count(c)).then_some(k),
             _ => None,
         }
     }

@@ -1,6 +1,7 @@
 // Why something is turned away, and the numbers by which clerks are told it.
 ghost use Rattle.std.specs.Prelude.{◌≡◌, nat_lt};
 ghost use Rattle.lines.specs.Marks.{marks_in};
+ghost use Rattle.deals.specs.declared.Answer.TheVariants.{No};
 ghost use Rattle.deals.specs.Deals.{State};
 ghost use Rattle.deals.specs.Promise.{can};
 ghost use Rattle.deals.specs.Tables.{Desk, lines_in, op_at};
@@ -21,7 +22,7 @@ pub enum Refusal {
 }
 
 impl From<Refusal> for Answer {
-    ghost from_gives = { λ why a. a ≡ Answer.No (number_of why) };
+    ghost from_gives = { λ why a. a ≡ No (number_of why) };
 
     fn from(why: Refusal) -> Answer {
         Answer::No(why as u32)
@@ -40,10 +41,15 @@ impl<'a> Tables<'a> {
     pub fn refused(&self, c: Clerk) -> Option<Refusal>
         ensures { (s : State) → Desk self.now.room.now s → Refuses can (op_at self.now.room.now c) (s.clerk c).deal result }
     {
-        match self.read_op(c) {
-            o if !o.is_built() => Some(Refusal::NotBuilt),
-            o if !o.comes_to(self.count(c)) => Some(Refusal::TooLong),
-            Op::Back(j) if !self.has_mark(c, j) => Some(Refusal::NoMark),
+        let o = self.read_op(c);
+        if !o.is_built() {
+            return Some(Refusal::NotBuilt);
+        }
+        if !o.comes_to(self.count(c)) {
+            return Some(Refusal::TooLong);
+        }
+        match o {
+            Op::Back(j) => (!self.has_mark(c, j)).then_some(Refusal::NoMark),
             _ => None,
         }
     }

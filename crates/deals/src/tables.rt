@@ -1,5 +1,5 @@
 // The clerks' tables in the room, lent for as long as they are read or changed.
-ghost use Rattle.std.specs.Prelude.{◌≡◌, ◌≤◌};
+ghost use Rattle.std.specs.Prelude.{◌≡◌, ◌<◌, ◌≤◌};
 ghost use Rattle.deals.specs.Tables.{Sound, count_at};
 
 use super::layout::COUNTS_AT;
@@ -24,6 +24,7 @@ impl<'a> Tables<'a> {
     pub(crate) fn count(&self, c: Clerk) -> usize
         ensures is { result ≡ count_at self.now.room.now c }
         ensures few { result ≤ 1024 }
+        ensures clerk { c < 32 }
     {
         self.room[COUNTS_AT + c.index()] as usize
     }

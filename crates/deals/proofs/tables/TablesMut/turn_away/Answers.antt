@@ -1,0 +1,18 @@
+use Rattle.deals.specs.Deals.{Over, set_clerk}
+use Rattle.deals.specs.Promise.{can}
+use Rattle.deals.proofs.Desks.{desk_like}
+use Rattle.deals.proofs.Holding.{holds_serves, same_deal}
+use Rattle.deals.proofs.Offs.{only_none}
+use Rattle.deals.proofs.tables.TablesMut.turn_away.Goals as goal
+
+pub returns : goal.returns
+returns c =
+    let r = c.args.self.now.room.now in
+    let p = c.args.pick in
+    let closed = c.leave.ensures in
+    record {
+      lent = closed.lent;
+      holds = λ s o a g i v. holds_serves can r s p i v r c.leave.new.self.room.now s.book (s.clerk p.who).deal o a g
+          (desk_like r s (set_clerk p.who (s.clerk p.who).deal (Over o a g) s) (same_deal s p.who (Over o a g)) i.desk) (only_none r c.args.self.now.sound) closed.order closed.others;
+      rest = closed.others.rest;
+    }
