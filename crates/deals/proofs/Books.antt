@@ -1,5 +1,5 @@
 -- Books: what is found at a key, after a put and after a drop; the next key; two books in which the same is found.
-use Rattle.std.proofs.Common.{◌≡◌, ℕ, suc, ◌<◌, ◌≤◌, Bool, true, false, cond, ◌&&◌, T, eqb, ltb, leb, List, [], ◌∷◌, get_or, sym, refl, ap, ◌∙◌, ap₂, inl, inr, arith, le→leb, eqb→eq, ltb→lt, lt→ltb}
+use Rattle.std.proofs.Common.{◌≡◌, ℕ, suc, ◌<◌, ◌≤◌, Bool, cond, ◌&&◌, T, eqb, ltb, leb, List, [], ◌∷◌, get_or, sym, refl, ap, ◌∙◌, ap₂, inl, inr, arith, le→leb, eqb→eq, ltb→lt, lt→ltb}
 use lib.Dec.{eqb_refl}
 use Rattle.std.proofs.lemmas.Bool.{lt-ltb, le-ltb, eq-eqb, ne_eqb, cases_order, cases_lt}
 use Rattle.deals.specs.declared.Answer.{Answer}
@@ -13,12 +13,10 @@ up_less m n [] h u = tt
 up_less m n (p ∷ ps) h u = (omega (arith, u.0), u.1)
 
 pub and_t : (x y : Bool) → T (x && y) → T x × T y
-and_t true y t = (tt, t)
-and_t false y t = absurd t
+and_t x y t = grind arith
 
 pub t_and : (x y : Bool) → T x → T y → T (x && y)
-t_and true y s t = t
-t_and false y s t = s
+t_and x y s t = grind arith
 
 up_tail : (p : Two) (b : Book) → T (rising (p ∷ b)) → Up (suc p.key) b
 unfolding rising
@@ -194,14 +192,7 @@ next_by f g k a e (some l x i h v) =
 
 above : (j k : ℕ) (a : Answer) → T (up_to j k a) → k < j
 unfolding up_to
-above j k Done t = absurd t
-above j k Missing t = ltb→lt k j t
-above j k (Word x) t = absurd t
-above j k (Pair l x) t = ltb→lt k j (and_t (ltb k j) (leb j l) t).0
-above j k (Point i) t = absurd t
-above j k (No i) t = absurd t
-above j k Full t = absurd t
-above j k Clash t = absurd t
+above j k a t = grind arith
 
 next_cons : (k : ℕ) (p : Two) (b : Book) (a : Answer) → p.key ≤ k → IsNext (λ j. find j b) k a → IsNext (λ j. find j (p ∷ b)) k a
 next_cons k p b a h = next_by (λ j. find j b) (λ j. find j (p ∷ b)) k a (λ j t. sym (find_past j p b (omega (arith, above j k a t))))
@@ -247,14 +238,7 @@ decode xs =
 
 decode_code : (a : Answer) → decode (code a) ≡ a
 unfolding decode code
-decode_code Done = refl
-decode_code Missing = refl
-decode_code (Word x) = refl
-decode_code (Pair k x) = refl
-decode_code (Point i) = refl
-decode_code (No i) = refl
-decode_code Full = refl
-decode_code Clash = refl
+decode_code a = grind arith
 
 alike_eq : (xs ys : List ℕ) → T (alike xs ys) → xs ≡ ys
 unfolding alike

@@ -12,7 +12,6 @@ use Rattle.deals.specs.Tables.{count_at, lines_in, waiting_in, order_of, rest_of
 use Rattle.deals.specs.LineUps.{LineUp, TablesHold}
 use Rattle.deals.proofs.Offs.{set_off, mid_off, mid_at, off_kept, kept_then, kept_part, kept_rest}
 use Rattle.deals.proofs.Ages.{line_quiet}
-use Rattle.deals.proofs.Rings.{none_below}
 
 -- y: the numbers of lines then
 module _ (r y : List ℕ) (wide : length r ≡ 262144) (long : length y ≡ 32) (zeros : (k : ℕ) → k < length y → get_or y k 0 ≡ 0) where
@@ -58,7 +57,7 @@ module _ (r y : List ℕ) (wide : length r ≡ 262144) (long : length y ≡ 32) 
         wide = same_length ∙ wide;
         short = λ e h. rw (count_none e h) (omega arith);
         most = rw waiting_none (omega arith);
-        few = λ k h. absurd (none_below k (rw waiting_none at h));
+        few = λ k h. absurd (omega (arith, waiting_none));
       }
 
   pub clear_sound : Sound (set (put_mid 259680 32 r y) 259744 0)

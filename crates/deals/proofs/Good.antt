@@ -11,9 +11,6 @@ use Rattle.deals.proofs.Books.{Up, and_t, t_and}
 use Rattle.deals.proofs.Writes.{or_left, or_right}
 use Rattle.deals.proofs.Apart.{Apart, agrees_none, agrees_push, nothing_bars, apart_told, apart_made, apart_undone, apart_stays, apart_aged, barred_none}
 
-absurd_lt : (i : ℕ) → i < 0 → ⊥
-absurd_lt i h = omega arith
-
 is_quiet : Now → Type 0
 is_quiet Quiet = Unit {0}
 is_quiet (Under o g) = ⊥
@@ -30,7 +27,7 @@ quiet≢over o a g e = subst is_quiet e tt
 -- some below n, and every below n
 pub some_at : (n : ℕ) (f : ℕ → Bool) (i : ℕ) → i < n → T (f i) → T (some' n f)
 unfolding some'
-some_at zero f i h t = absurd (absurd_lt i h)
+some_at zero f i h t = absurd (omega arith)
 some_at (suc n) f i h t =
     elim (cases_eq i n) [
       | inl e ↦ or_right (some' n f) (f n) (rw e at t)
@@ -44,7 +41,7 @@ every_all (suc n) f h = t_and (every n f) (f n) (every_all n f (λ i l. h i (ome
 
 pub every_at : (n : ℕ) (f : ℕ → Bool) (i : ℕ) → i < n → T (every n f) → T (f i)
 unfolding every
-every_at zero f i h t = absurd (absurd_lt i h)
+every_at zero f i h t = absurd (omega arith)
 every_at (suc n) f i h t =
     elim (cases_eq i n) [
       | inl e ↦ rw e (and_t (every n f) (f n) t).1

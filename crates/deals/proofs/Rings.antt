@@ -5,9 +5,6 @@ use Rattle.std.proofs.lemmas.Bool.{eq-eqb, ne_eqb, cases_eq, cases_Bool, cases_l
 use Rattle.deals.specs.declared.Op.{Op}
 use Rattle.deals.specs.Deals.{State, some', is_in, those, further, reach, ring, waits}
 
-pub none_below : (i : ℕ) → i < 0 → ⊥
-none_below i h = omega arith
-
 is_in_past : (n : ℕ) (f : ℕ → Bool) (e : ℕ) → n ≤ e → is_in e (those n f) ≡ false
 unfolding is_in those
 is_in_past zero f e h = refl
@@ -19,7 +16,7 @@ is_in_past (suc n) f e h =
 
 is_in_below : (n : ℕ) (f : ℕ → Bool) (e : ℕ) → e < n → is_in e (those n f) ≡ f e
 unfolding is_in those
-is_in_below zero f e h = absurd (none_below e h)
+is_in_below zero f e h = absurd (omega arith)
 is_in_below (suc n) f e h =
     elim (cases_eq e n) [
       | inl i ↦ elim (cases_Bool (f n)) [
