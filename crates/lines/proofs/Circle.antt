@@ -24,9 +24,6 @@ place_high r i h = rw (le-ltb (r.start + i) r.cap h)
 place_cases : (r : Ring) (i : ℕ) → ((r.start + i < r.cap) × (place r i ≡ r.start + i)) ⊎ ((r.cap ≤ r.start + i) × (place r i ≡ r.start + i - r.cap))
 place_cases r i = elim (cases_lt (r.start + i) r.cap) [ inl h ↦ inl (h, place_low r i h) | inr h ↦ inr (h, place_high r i h) ]
 
-pub place_within : (r : Ring) (i : ℕ) → r.start < r.cap → i < r.cap → place r i < r.cap
-place_within r i s h = elim (place_cases r i) [ inl p ↦ omega arith | inr p ↦ omega arith ]
-
 place_apart : (r : Ring) (i j : ℕ) → r.start < r.cap → i < r.cap → j < r.cap → (j ≡ i → ⊥) → place r j ≡ place r i → ⊥
 place_apart r i j s h g d e =
     elim (place_cases r i) [
@@ -87,3 +84,13 @@ pop_lines w r s h c g either =
     each : (i : ℕ) → i < r.count → line_at w (place r i) ≡ get_or (line_at w r.start ∷ lines_of w (after r s)) i Idle
     each zero l = ap (line_at w) (place_low r 0 (omega arith) ∙ (let e : r.start + 0 ≡ r.start = omega arith in e))
     each (suc i) l = ap (line_at w) (next_place r s i h either (omega arith)) ∙ sym (at_line w (after r s) i Idle (omega arith))
+
+-- one less at the end
+pub pop_back_lines : (w : List ℕ) (r : Ring) (i : ℕ) → r.count ≡ i + 1 → lines_of w r ≡ lines_of w (ring r.cap r.start i) ++ line_at w (place r i) ∷ []
+unfolding lines_of place
+pop_back_lines w r i e = rw e (map-range_with_len_more (λ j. line_at w (place r j)) 0 i i (omega arith))
+
+-- a ring without lines
+pub no_lines : (w : List ℕ) (r : Ring) → r.count ≡ 0 → lines_of w r ≡ []
+unfolding lines_of
+no_lines w r e = rw e

@@ -1,9 +1,10 @@
 -- The way back, line by line; and the marks that stand then.
-use Rattle.std.proofs.Common.{◌≡◌, ℕ, zero, suc, ◌+◌, ◌-◌, ◌<◌, ◌≤◌, min, List, [], ◌∷◌, ◌++◌, length, get_or, take, drop, set, sym, ap, ◌∙◌, arith}
-use Rattle.std.proofs.lemmas.List.{append_assoc, get_or-drop, drop_more, drop-drop, drop-set-lt, take_more_set}
+use Rattle.std.proofs.Common.{◌≡◌, ℕ, zero, suc, ◌-◌, min, Bool, true, false, List, [], ◌∷◌, length, sym, refl, ap, ◌∙◌, arith}
+use Rattle.std.specs.List.{filter}
 use Rattle.std.proofs.lemmas.Bool.{ne_eqb}
 use Rattle.lines.specs.declared.line.Line.{Line}
 use Rattle.lines.specs.declared.line.Line.TheVariants.{Idle, Wrote, Cleared, Stale, Read, Scanned, Marked}
+use Rattle.lines.specs.Changes.{ChangesTo}
 use Rattle.lines.specs.Marks.{mark_of, marks_in, backed, line_back, left_back}
 
 all_stay : (n : ℕ) → suc n - 0 ≡ suc n
@@ -37,30 +38,30 @@ marks_back (suc n) (Read k ∷ ls) = omega (arith, marks_back (suc n) ls)
 marks_back (suc n) (Scanned k q ∷ ls) = omega (arith, marks_back (suc n) ls)
 marks_back (suc n) (Marked ∷ ls) = omega (arith, marks_back n ls)
 
--- one line of the way: those before i are done, the others are as they were
-module _ (xs ys : List Line) (all : List Line) (i n : ℕ) (low : i < length xs) (long : length ys ≡ length xs)
-    (done : take i ys ++ backed n (drop i xs) ≡ all) (rest : drop i ys ≡ drop i xs) where
-  same_line : get_or ys i Idle ≡ get_or xs i Idle
-  same_line =
-      let e : i + 0 ≡ i = omega arith in
-      ap (λ m. get_or ys m Idle) (sym e) ∙ (sym (get_or-drop i ys 0 Idle) ∙ (ap (λ x. get_or x 0 Idle) rest ∙ (get_or-drop i xs 0 Idle ∙ ap (λ m. get_or xs m Idle) e)))
+-- a change that makes of each line what goes back, where left reads how many marks stay from here on
+pub backed_from_changes : {F : Type 0} (R : F → Line → Line → F → Type 0) (left : F → ℕ) → ((f : F) (x y : Line) (g : F) → R f x y g → (y ≡ line_back (left f) x) × (left g ≡ left_back (left f) x))
+    → (f : F) (xs ys : List Line) → ChangesTo R f xs ys → ys ≡ backed (left f) xs
+backed_from_changes R left step f [] ys c = c
+backed_from_changes R left step f (x ∷ xs) ys (y, zs, g, e, s, c) =
+    let k = step f x y g s in
+    e ∙ (ap (λ q. q ∷ zs) k.0 ∙ (ap (λ q. line_back (left f) x ∷ q) (backed_from_changes R left step g xs zs c ∙ ap (λ n. backed n xs) k.1) ∙ sym (back_line (left f) x xs)))
 
-  pub back_step : (l : Line) → l ≡ get_or ys i Idle → (take (i + 1) (set ys i (line_back n l)) ++ backed (left_back n l) (drop (i + 1) xs) ≡ all) × (drop (i + 1) (set ys i (line_back n l)) ≡ drop (i + 1) xs)
-  back_step l e =
-      let is : l ≡ get_or xs i Idle = e ∙ same_line in
-      let m : drop i xs ≡ l ∷ drop (i + 1) xs = drop_more xs i Idle low ∙ ap (λ x. x ∷ drop (i + 1) xs) (sym is) in
-      let b : backed n (drop i xs) ≡ line_back n l ∷ backed (left_back n l) (drop (i + 1) xs) = ap (backed n) m ∙ back_line n l (drop (i + 1) xs) in (
-        ap (λ x. x ++ backed (left_back n l) (drop (i + 1) xs)) (take_more_set ys i (line_back n l) (omega arith))
-            ∙ (append_assoc (take i ys) (line_back n l ∷ []) (backed (left_back n l) (drop (i + 1) xs)) ∙ (ap (λ x. take i ys ++ x) (sym b) ∙ done)),
-        drop-set-lt (i + 1) ys i (line_back n l) (omega arith) ∙ (sym (drop-drop 1 i ys) ∙ (ap (drop 1) rest ∙ drop-drop 1 i xs)),
-      )
+-- the marks that stand, counted
+abbrev pub is_mark : Line → Bool
+is_mark Idle = false
+is_mark (Wrote k x) = false
+is_mark (Cleared k s) = false
+is_mark (Stale k) = false
+is_mark (Read k) = false
+is_mark (Scanned k q) = false
+is_mark Marked = true
 
--- one line more is counted
-pub mark_most : (l : Line) → mark_of l ≤ 1
-mark_most Idle = omega arith
-mark_most (Wrote k x) = omega arith
-mark_most (Cleared k s) = omega arith
-mark_most (Stale k) = omega arith
-mark_most (Read k) = omega arith
-mark_most (Scanned k q) = omega arith
-mark_most Marked = omega arith
+pub marks_counted : (ls : List Line) → length (filter is_mark ls) ≡ marks_in ls
+marks_counted [] = refl
+marks_counted (Idle ∷ ls) = omega (arith, marks_counted ls)
+marks_counted (Wrote k x ∷ ls) = omega (arith, marks_counted ls)
+marks_counted (Cleared k s ∷ ls) = omega (arith, marks_counted ls)
+marks_counted (Stale k ∷ ls) = omega (arith, marks_counted ls)
+marks_counted (Read k ∷ ls) = omega (arith, marks_counted ls)
+marks_counted (Scanned k q ∷ ls) = omega (arith, marks_counted ls)
+marks_counted (Marked ∷ ls) = omega (arith, marks_counted ls)

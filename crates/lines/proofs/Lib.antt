@@ -1,4 +1,5 @@
 pub mod Words
 pub mod Circle
+pub mod Changes
 pub mod Going
 pub mod Parts

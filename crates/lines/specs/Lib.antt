@@ -1,4 +1,5 @@
 pub mod Lines
 pub mod Rings
+pub mod Changes
 pub mod Marks
 pub mod Tables

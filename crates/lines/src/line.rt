@@ -1,10 +1,10 @@
 // One line, as three words of a table: a tag and two words.
-ghost use Rattle.std.specs.Prelude.{◌≡◌, ℕ, ◌+◌, ◌*◌, ◌≤◌, length, ◌≢◌};
+ghost use Rattle.std.specs.Prelude.{◌≡◌, ℕ, ◌+◌, ◌*◌, ◌≤◌, [], ◌∷◌, length, ◌≢◌, slice_index};
 ghost use Rattle.lines.specs.Lines.{line_at, line_of, tag_of, first_of, second_of};
 
 // A line of a deal, or a record of the queue (only `Wrote` and `Cleared` are records).
 // The kept key of `Cleared` is an `Option`, told by the tag, so that key 0 is a key as any other.
-#[derive(Clone, Copy)]
+#[derive(Clone, Copy, PartialEq, Eq, Debug)]
 pub enum Line {
     // Says nothing and locks nothing.
     Idle,
@@ -42,37 +42,41 @@ const MARKED: u64 = 8;
 
 const IDLE: u64 = 0;
 
-// The line that three words are. A tag that no line has is read as idle.
-fn decode(tag: u64, a: u64, b: u64) -> Line
-    ensures { result ≡ line_of tag a b }
-{
-    match tag {
-        WROTE => Line::Wrote(a, b),
-        CLEARED_LAST => Line::Cleared(a, None),
-        CLEARED => Line::Cleared(a, Some(b)),
-        STALE => Line::Stale(a),
-        READ => Line::Read(a),
-        SCANNED_LAST => Line::Scanned(a, None),
-        SCANNED => Line::Scanned(a, Some(b)),
-        MARKED => Line::Marked,
-        _ => Line::Idle,
+// A tag that no line has is read as idle.
+impl From<[u64; 3]> for Line {
+    ghost from_gives = { λ w l. l ≡ line_of (slice_index w 0) (slice_index w 1) (slice_index w 2) };
+
+    fn from(words: [u64; 3]) -> Line {
+        let [tag, a, b] = words;
+        match tag {
+            WROTE => Line::Wrote(a, b),
+            CLEARED_LAST => Line::Cleared(a, None),
+            CLEARED => Line::Cleared(a, Some(b)),
+            STALE => Line::Stale(a),
+            READ => Line::Read(a),
+            SCANNED_LAST => Line::Scanned(a, None),
+            SCANNED => Line::Scanned(a, Some(b)),
+            MARKED => Line::Marked,
+            _ => Line::Idle,
+        }
     }
 }
 
-// A line's three words.
-fn encode(line: Line) -> (u64, u64, u64)
-    ensures { (result.0 ≡ tag_of line) × ((result.1 ≡ first_of line) × (result.2 ≡ second_of line)) }
-{
-    match line {
-        Line::Idle => (IDLE, 0, 0),
-        Line::Wrote(k, x) => (WROTE, k, x),
-        Line::Cleared(k, None) => (CLEARED_LAST, k, 0),
-        Line::Cleared(k, Some(s)) => (CLEARED, k, s),
-        Line::Stale(k) => (STALE, k, 0),
-        Line::Read(k) => (READ, k, 0),
-        Line::Scanned(k, None) => (SCANNED_LAST, k, 0),
-        Line::Scanned(k, Some(q)) => (SCANNED, k, q),
-        Line::Marked => (MARKED, 0, 0),
+impl From<Line> for [u64; 3] {
+    ghost from_gives = { λ l w. w ≡ tag_of l ∷ first_of l ∷ second_of l ∷ [] };
+
+    fn from(line: Line) -> [u64; 3] {
+        match line {
+            Line::Idle => [IDLE, 0, 0],
+            Line::Wrote(k, x) => [WROTE, k, x],
+            Line::Cleared(k, None) => [CLEARED_LAST, k, 0],
+            Line::Cleared(k, Some(s)) => [CLEARED, k, s],
+            Line::Stale(k) => [STALE, k, 0],
+            Line::Read(k) => [READ, k, 0],
+            Line::Scanned(k, None) => [SCANNED_LAST, k, 0],
+            Line::Scanned(k, Some(q)) => [SCANNED, k, q],
+            Line::Marked => [MARKED, 0, 0],
+        }
     }
 }
 
@@ -81,7 +85,8 @@ pub fn read_line(words: &[u64], p: usize) -> Line
     requires { 3 * p + 3 ≤ length words.now }
     ensures { result ≡ line_at words.now p }
 {
-    decode(words[WORDS * p], words[WORDS * p + 1], words[WORDS * p + 2])
+    let at = WORDS * p;
+    Line::from([words[at], words[at + 1], words[at + 2]])
 }
 
 // Reading the line p gives then what was written, and the other lines are as they were.
@@ -90,8 +95,6 @@ pub fn write_line(words: &mut [u64], p: usize, line: Line)
     ensures written { line_at words.new p ≡ line }
     ensures others { (q : ℕ) → (q ≢ p) → line_at words.new q ≡ line_at words.old q }
 {
-    let (tag, a, b) = encode(line);
-    words[WORDS * p] = tag;
-    words[WORDS * p + 1] = a;
-    words[WORDS * p + 2] = b;
+    let at = WORDS * p;
+    words[at..at + WORDS].copy_from_slice(&<[u64; 3]>::from(line));
 }

@@ -1,31 +1,19 @@
 // The marks of a deal: how many stand, and the way back to one of them.
-ghost use Rattle.std.specs.Prelude.{◌≡◌, ℕ, ◌<◌, ◌≤◌, min};
+ghost use Rattle.std.specs.Prelude.{◌≡◌, ◌≤◌, min, length};
 ghost use Rattle.lines.specs.Rings.{Holds, lines_of};
-ghost use Rattle.lines.specs.Marks.{mark_of, marks_in, stale, backed, line_back, left_back};
+ghost use Rattle.lines.specs.Marks.{marks_in, stale, backed, line_back, left_back};
 
 use crate::line::Line;
-use crate::ring::{Ring, line_at, set_line};
-
-fn mark_of(line: Line) -> usize
-    ensures { result ≡ mark_of line }
-{
-    match line {
-        Line::Marked => 1,
-        _ => 0,
-    }
-}
+use crate::ring::{Lines, Ring};
 
 // How many marks stand.
-pub fn marks_in(words: &[u64], ring: Ring) -> usize
-    requires { Holds words.now ring }
-    ensures is { result ≡ marks_in (lines_of words.now ring) }
-    ensures few { result ≤ ring.count }
+pub fn marks_in(lines: Lines) -> usize
+    ensures is { result ≡ marks_in lines.entry }
+    ensures few { result ≤ length lines.entry }
 {
-    let mut marks = 0;
-    for i in 0..ring.count {
-        marks += mark_of(line_at(words, ring, i));
-    }
-    marks
+    // No ring has more lines than a number can count.
+    let _most = lines.len();
+    lines.filter(|line| matches!(line, Line::Marked)).count()
 }
 
 // What was gone back over has no effect and still locks; its marks are gone.
@@ -40,19 +28,6 @@ fn stale_line(line: Line) -> Line
     }
 }
 
-// One line, where so many marks stay from here on.
-fn line_back(left: usize, line: Line) -> Line
-    ensures { result ≡ line_back left line }
-{
-    if left == 0 { stale_line(line) } else { line }
-}
-
-fn left_back(left: usize, line: Line) -> usize
-    ensures { result ≡ left_back left line }
-{
-    if left == 0 { 0 } else { left - mark_of(line) }
-}
-
 // The first `stay` marks stay, and what stands before the last of them.
 pub fn go_back(words: &mut [u64], ring: Ring, stay: usize)
     requires { Holds words.old ring }
@@ -60,9 +35,19 @@ pub fn go_back(words: &mut [u64], ring: Ring, stay: usize)
     ensures marks { marks_in (lines_of words.new ring) ≡ min stay (marks_in (lines_of words.old ring)) }
 {
     let mut left = stay;
-    for i in 0..ring.count {
-        let line = line_at(words, ring, i);
-        set_line(words, ring, i, line_back(left, line));
-        left = left_back(left, line);
-    }
+    ring.change_all(
+        words,
+        move |line: Line| -> Line
+            ensures line { result ≡ line_back left.entry line }
+            ensures left { left.exit ≡ left_back left.entry line }
+        {
+            if left == 0 {
+                return stale_line(line);
+            }
+            if matches!(line, Line::Marked) {
+                left -= 1;
+            }
+            line
+        },
+    );
 }

@@ -1,20 +1,21 @@
-// The lines of one deal, in the room.
-ghost use Rattle.std.specs.Prelude.{◌≡◌, ◌+◌, ◌<◌, ◌≤◌, min, [], ◌∷◌, ◌++◌, slice_index_or};
-ghost use Rattle.lines.specs.declared.line.Line.TheVariants.{Idle};
+// The lines of one deal, in the room. A deal is named by its clerk's place in the tables.
+ghost use Rattle.std.specs.Prelude.{◌≡◌, ◌+◌, ◌<◌, min, [], ◌∷◌, ◌++◌};
+ghost use Rattle.lines.specs.Changes.{ChangesTo};
 ghost use Rattle.lines.specs.Marks.{marks_in, backed};
 ghost use Rattle.lines.specs.Tables.{deal_lines, DealIn, OnlyDeal};
 
 use crate::line::Line;
+use crate::marks::go_back;
+use crate::ring::Lines;
 use crate::tables::{DEAL_WORDS, deal_ring};
-use crate::{marks, ring};
 
-// The line i of a deal with so many lines.
-pub fn line_of(room: &[u64], deal: usize, count: usize, i: usize) -> Line
-    requires { (DealIn room.now deal count) × (i < count) }
-    ensures { result ≡ slice_index_or (deal_lines room.now deal count) i Idle }
+// The lines of a deal that has so many.
+pub fn lines_of<'a>(room: &'a [u64], deal: usize, count: usize) -> Lines<'a>
+    requires { DealIn room.now deal count }
+    ensures { result ≡ deal_lines room.now deal count }
 {
     let at = DEAL_WORDS * deal;
-    ring::line_at(&room[at..at + DEAL_WORDS], deal_ring(count), i)
+    deal_ring(count).lines(&room[at..at + DEAL_WORDS])
 }
 
 // One more line; the deal has `count + 1` then.
@@ -24,17 +25,18 @@ pub fn add_line(room: &mut [u64], deal: usize, count: usize, line: Line)
     ensures only { OnlyDeal room.old room.new deal }
 {
     let at = DEAL_WORDS * deal;
-    ring::push(&mut room[at..at + DEAL_WORDS], deal_ring(count), line);
+    deal_ring(count).push(&mut room[at..at + DEAL_WORDS], line);
 }
 
-// How many marks of the deal stand.
-pub fn marks_of(room: &[u64], deal: usize, count: usize) -> usize
-    requires { DealIn room.now deal count }
-    ensures is { result ≡ marks_in (deal_lines room.now deal count) }
-    ensures few { result ≤ count }
+// Each line of the deal becomes what `change` makes of it, from the first on.
+pub fn change_lines<F: FnMut(Line) -> Line>(room: &mut [u64], deal: usize, count: usize, change: F)
+    requires room { DealIn room.old deal count }
+    requires callable { F.IsAlwaysCallable change }
+    ensures lines { ChangesTo F.step change (deal_lines room.old deal count) (deal_lines room.new deal count) }
+    ensures only { OnlyDeal room.old room.new deal }
 {
     let at = DEAL_WORDS * deal;
-    marks::marks_in(&room[at..at + DEAL_WORDS], deal_ring(count))
+    deal_ring(count).change_all(&mut room[at..at + DEAL_WORDS], change);
 }
 
 // The deal goes back: its first `stay` marks stay, and what stands before the last of them.
@@ -45,5 +47,5 @@ pub fn back_to(room: &mut [u64], deal: usize, count: usize, stay: usize)
     ensures only { OnlyDeal room.old room.new deal }
 {
     let at = DEAL_WORDS * deal;
-    marks::go_back(&mut room[at..at + DEAL_WORDS], deal_ring(count), stay);
+    go_back(&mut room[at..at + DEAL_WORDS], deal_ring(count), stay);
 }

@@ -1,19 +1,18 @@
 // The queue of committed writes, in the room.
-ghost use Rattle.std.specs.Prelude.{◌≡◌, ◌+◌, ◌<◌, [], ◌∷◌, ◌++◌, slice_index_or};
-ghost use Rattle.lines.specs.declared.line.Line.TheVariants.{Idle};
+ghost use Rattle.std.specs.Prelude.{◌≡◌, ◌+◌, ◌<◌, [], ◌∷◌, ◌++◌};
+ghost use Rattle.lines.specs.Changes.{ChangesTo};
 ghost use Rattle.lines.specs.Tables.{queue_lines, QueueIn, OnlyQueue};
 
 use crate::line::Line;
-use crate::ring;
-use crate::ring::Ring;
+use crate::ring::{Lines, Ring};
 use crate::tables::{QUEUE_AT, TABLES_END};
 
-// The record i of the queue.
-pub fn record_at(room: &[u64], queue: Ring, i: usize) -> Line
-    requires { (QueueIn room.now queue) × (i < queue.count) }
-    ensures { result ≡ slice_index_or (queue_lines room.now queue) i Idle }
+// The records of the queue.
+pub fn records_of<'a>(room: &'a [u64], queue: Ring) -> Lines<'a>
+    requires { QueueIn room.now queue }
+    ensures { result ≡ queue_lines room.now queue }
 {
-    ring::line_at(&room[QUEUE_AT..TABLES_END], queue, i)
+    queue.lines(&room[QUEUE_AT..TABLES_END])
 }
 
 // One more record at the queue's end.
@@ -23,7 +22,17 @@ pub fn add_record(room: &mut [u64], queue: Ring, line: Line) -> Ring
     ensures queue { (QueueIn room.new result) × ((result.start ≡ queue.start) × (result.count ≡ queue.count + 1)) }
     ensures only { OnlyQueue room.old room.new }
 {
-    ring::push(&mut room[QUEUE_AT..TABLES_END], queue, line)
+    queue.push(&mut room[QUEUE_AT..TABLES_END], line)
+}
+
+// Each record becomes what `change` makes of it, from the first on.
+pub fn change_records<F: FnMut(Line) -> Line>(room: &mut [u64], queue: Ring, change: F)
+    requires room { QueueIn room.old queue }
+    requires callable { F.IsAlwaysCallable change }
+    ensures lines { ChangesTo F.step change (queue_lines room.old queue) (queue_lines room.new queue) }
+    ensures only { OnlyQueue room.old room.new }
+{
+    queue.change_all(&mut room[QUEUE_AT..TABLES_END], change);
 }
 
 // The first record of a queue that has one, and the queue without it. No word is written.
@@ -32,5 +41,5 @@ pub fn front_of(room: &[u64], queue: Ring) -> (Line, Ring)
     ensures lines { queue_lines room.now queue ≡ result.0 ∷ queue_lines room.now result.1 }
     ensures queue { (QueueIn room.now result.1) × (result.1.count + 1 ≡ queue.count) }
 {
-    ring::pop_front(&room[QUEUE_AT..TABLES_END], queue)
+    queue.pop_front(&room[QUEUE_AT..TABLES_END])
 }

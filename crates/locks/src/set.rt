@@ -1,10 +1,10 @@
-// A set of the 32 clerks, as the bits of a word.
-ghost use Rattle.std.specs.Prelude.{◌≡◌, ℕ, ◌<◌, not, ◌||◌, ◌==◌};
+// A set of the clerks, as the bits of a word.
+ghost use Rattle.std.specs.Prelude.{◌≡◌, ℕ, not, ◌||◌, ◌==◌};
 ghost use Rattle.locks.specs.Sets.{is_in, some_of};
 
-pub const CLERKS: u32 = 32;
+use clerk::Clerk;
 
-#[derive(Clone, Copy)]
+#[derive(Clone, Copy, PartialEq, Eq, Debug)]
 pub struct ClerkSet {
     bits: u32,
 }
@@ -16,18 +16,16 @@ impl ClerkSet {
         ClerkSet { bits: 0 }
     }
 
-    pub fn contains(self, clerk: u32) -> bool
-        requires { clerk < 32 }
+    pub fn contains(self, clerk: Clerk) -> bool
         ensures { result ≡ is_in self clerk }
     {
-        (self.bits >> clerk) & 1 == 1
+        (self.bits >> clerk.number()) & 1 == 1
     }
 
-    pub fn with(self, clerk: u32) -> ClerkSet
-        requires { clerk < 32 }
+    pub fn with(self, clerk: Clerk) -> ClerkSet
         ensures { (k : ℕ) → is_in result k ≡ (is_in self k || k == clerk) }
     {
-        let bits = self.bits | (1u32 << clerk);
+        let bits = self.bits | (1u32 << clerk.number());
         ClerkSet { bits }
     }
 
