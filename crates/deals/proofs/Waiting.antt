@@ -1,7 +1,5 @@
 -- For whom a clerk waits, by the tables.
-use Rattle.std.proofs.Common.{◌≡◌, ℕ, ◌*◌, ◌<◌, Bool, true, false, not, ◌&&◌, ◌||◌, eqb, ltb, List, take, drop, Option, sym, ap, ap₂, ◌∙◌, inl, inr, arith}
-use Rattle.lines.specs.Rings.{lines_of}
-use Rattle.lines.specs.Tables.{deal_ring, deal_lines}
+use Rattle.std.proofs.Common.{◌≡◌, ℕ, ◌<◌, Bool, true, false, not, ◌&&◌, ◌||◌, eqb, ltb, List, Option, sym, ap, ap₂, ◌∙◌, inl, inr, arith}
 use Rattle.std.proofs.Math.Bool.{and-true}
 use Rattle.std.proofs.lemmas.Bool.{cases_lt, le-ltb, and_left, and_right}
 use Rattle.locks.specs.Bars.{some_bars}
@@ -13,11 +11,6 @@ use Rattle.deals.specs.Rows.{want_of, Finds}
 use Rattle.deals.specs.Tables.{count_at, lines_in, op_at, is_under, Keeps, Desk, Asks}
 use Rattle.deals.specs.LineUps.{FindsFor}
 use Rattle.deals.proofs.Barring.{lines_barred}
-
--- the lines of a deal, by its part of the room
-pub part_lines : (room : List ℕ) (e k : ℕ) → k ≡ 3072 → lines_of (take k (drop (3072 * e) room)) (deal_ring (count_at room e)) ≡ lines_in room e
-unfolding lines_in deal_lines
-part_lines room e k h = rw h
 
 -- only a Next must know what it would find
 pub finds_any : (o : Op) (a : Answer) (f : Option ℕ) → ((k : ℕ) → o ≡ Next k → ⊥) → Finds o a f

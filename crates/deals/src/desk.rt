@@ -12,7 +12,6 @@ use super::{Answer, Op};
 use clerk::Clerk;
 use lines::line::Line;
 use lines::marks::go_back;
-use lines::ring::push;
 use lines::tables::{DEAL_WORDS, deal_ring};
 
 // The line that what was asked and told leaves. `above`: of a drop, the tree's first key above its own.
@@ -35,10 +34,11 @@ fn note(words: &mut [u64], n: usize, o: Op, a: Answer, above: Option<u64>)
     requires { (length words.old ≡ 3072) × (n < 1024) }
     ensures { (ss : List Said) → map bare (lines_of words.old (deal_ring n)) ≡ said_lines ss → map bare (lines_of words.new (deal_ring (n + 1))) ≡ said_lines (ss ++ record { op = o; told = a } ∷ []) }
 {
+    let ring = deal_ring(n);
     if let Op::Back(j) = o {
-        go_back(words, deal_ring(n), j as usize + 1);
+        go_back(words, ring, j as usize + 1);
     }
-    let _ = push(words, deal_ring(n), line_for(o, a, above));
+    ring.push(words, line_for(o, a, above));
 }
 
 impl<'a> TablesMut<'a> {

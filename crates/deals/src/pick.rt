@@ -1,5 +1,5 @@
 // Whom to serve: the first in the order of asking who counts.
-ghost use Rattle.std.specs.Prelude.{◌≡◌, ℕ, ◌+◌, ◌*◌, ◌<◌, true, false, not, ◌&&◌, ◌||◌, length, None, Option, MatchOption, ◌==◌, nat_lt, slice_index, slice_index_or};
+ghost use Rattle.std.specs.Prelude.{◌≡◌, ℕ, ◌+◌, ◌<◌, true, false, not, ◌&&◌, ◌||◌, length, None, Option, MatchOption, ◌==◌, nat_lt, slice_index, slice_index_or};
 ghost use Rattle.locks.specs.Bars.{some_bars};
 ghost use Rattle.locks.specs.Sets.{is_in};
 ghost use Rattle.deals.specs.Deals.{State, waits, ends};
@@ -11,7 +11,7 @@ ghost use Rattle.deals.specs.LineUps.{TablesHold, FindsFor, GraphTo, Picked, Qui
 use super::Op;
 use super::tables::Tables;
 use clerk::{CLERKS, Clerk};
-use lines::tables::{DEAL_LINES, DEAL_WORDS, deal_ring};
+use lines::tables::DEAL_LINES;
 use locks::graph::{Pick, WaitGraph};
 use locks::set::ClerkSet;
 use locks::way::{Want, in_way};
@@ -54,22 +54,11 @@ impl Op {
 }
 
 impl<'a> Tables<'a> {
-    // Is the deal of clerk e in the way of what is wanted.
-    fn deal_in_way(&self, e: Clerk, want: Want) -> bool
-        ensures { result ≡ some_bars want (lines_in self.now.room.now e) }
-    {
-        let at = DEAL_WORDS * e.index();
-        in_way(
-            &self.room[at..at + DEAL_WORDS],
-            deal_ring(self.count(e)),
-            want,
-        )
-    }
-
+    // Is the deal of clerk e in the way of what clerk c wants.
     fn other_in_way(&self, c: Clerk, e: Clerk, want: Want) -> bool
         ensures { result ≡ (not (c == e) && some_bars want (lines_in self.now.room.now e)) }
     {
-        c != e && self.deal_in_way(e, want)
+        c != e && in_way(self.lines(e), want)
     }
 
     // All but c whose deals are in the way of what c wants.
@@ -77,8 +66,9 @@ impl<'a> Tables<'a> {
         ensures { (k : ℕ) → is_in result k ≡ (nat_lt k 32 && (not (c == k) && some_bars want (lines_in self.now.room.now k))) }
     {
         let mut set = ClerkSet::none();
-        for e in 0..CLERKS as u32 {
-            if self.other_in_way(c, Clerk::new(e), want) {
+        for number in 0..CLERKS as u32 {
+            let e = Clerk::new(number);
+            if self.other_in_way(c, e, want) {
                 set = set.with(e);
             }
         }
@@ -114,7 +104,7 @@ impl<'a> Tables<'a> {
         ensures { (s : State) → TablesHold can true self.now.room.now s → FindsFor can self.now.room.now s (slice_index (order_of self.now.room.now) i) found → GraphTo can graph.old s (order_of self.now.room.now) i → GraphTo can graph.new s (order_of self.now.room.now) (i + 1) }
     {
         let who = self.who_at(i);
-        graph.put(who.number(), self.waits_for(who, found));
+        graph.put(who, self.waits_for(who, found));
     }
 
     // The first who counts, by the graph of all who have asked; by a clash, if it is on a ring.
@@ -134,7 +124,7 @@ impl<'a> Tables<'a> {
         let who = self.who_at(0);
         let pick = Pick {
             place: 0,
-            who: who.number(),
+            who,
             clash: false,
         };
         self.waits_for(who, found).is_empty().then_some(pick)

@@ -10,7 +10,7 @@ ghost use Rattle.deals.specs.Refusals.{number_of, Refuses};
 use super::tables::Tables;
 use super::{Answer, Op};
 use clerk::Clerk;
-use lines::own::marks_of;
+use lines::marks::marks_in;
 
 #[derive(Clone, Copy, Debug, PartialEq, Eq)]
 pub enum Refusal {
@@ -34,7 +34,7 @@ impl<'a> Tables<'a> {
     fn has_mark(&self, c: Clerk, j: u32) -> bool
         ensures { result ≡ nat_lt j (marks_in (lines_in self.now.room.now c)) }
     {
-        (j as usize) < marks_of(self.room, c.index(), self.count(c))
+        (j as usize) < marks_in(self.lines(c))
     }
 
     // Why what the clerk asks is turned away, if it is: it isn't built, the deal is too long, there is no such mark; in this order.

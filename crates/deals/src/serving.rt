@@ -44,13 +44,12 @@ impl<'a> TablesMut<'a> {
     // The one picked is told a, within its deal.
     pub fn answer(&mut self, pick: Pick, o: Op, a: Answer, above: Option<u64>)
         requires picked { pick.place < waiting_in self.old.room.now }
-        requires clerk { pick.who < 32 }
         requires short { count_at self.old.room.now pick.who < 1024 }
         ensures lent { self.new.room.ghost_name ≡ self.old.room.ghost_name }
         ensures holds { (s : State) → Serves can self.old.room.now self.new.room.now s pick s.book ((s.clerk pick.who).deal ++ record { op = o; told = a } ∷ []) o a }
         ensures rest { rest_of self.new.room.now ≡ rest_of self.old.room.now }
     {
-        self.tell(Clerk::new(pick.who), o, a, above);
+        self.tell(pick.who, o, a, above);
         self.leave(pick.place);
     }
 
@@ -66,20 +65,18 @@ impl<'a> TablesMut<'a> {
 
     // The deal of the one picked is over, whatever the book is then: nothing of it is left.
     fn end(&mut self, pick: Pick)
-        requires picked { pick.place < waiting_in self.old.room.now }
-        requires clerk { pick.who < 32 }
+        requires { pick.place < waiting_in self.old.room.now }
         ensures lent { self.new.room.ghost_name ≡ self.old.room.ghost_name }
         ensures holds { (s : State) (b : Book) (o : Op) (a : Answer) → Serves can self.old.room.now self.new.room.now s pick b [] o a }
         ensures rest { rest_of self.new.room.now ≡ rest_of self.old.room.now }
     {
-        self.forget(Clerk::new(pick.who));
+        self.forget(pick.who);
         self.leave(pick.place);
     }
 
     // The deal of the one picked is taken apart, by an undo or a clash.
     pub fn take_apart(&mut self, pick: Pick)
-        requires picked { pick.place < waiting_in self.old.room.now }
-        requires clerk { pick.who < 32 }
+        requires { pick.place < waiting_in self.old.room.now }
         ensures lent { self.new.room.ghost_name ≡ self.old.room.ghost_name }
         ensures holds { (s : State) (o : Op) (a : Answer) → Serves can self.old.room.now self.new.room.now s pick s.book [] o a }
         ensures rest { rest_of self.new.room.now ≡ rest_of self.old.room.now }
@@ -89,8 +86,7 @@ impl<'a> TablesMut<'a> {
 
     // The deal of the one picked is made: its writes have lasted, and its lines are forgotten. The book may be any then.
     pub fn finish<R: Receipt>(&mut self, pick: Pick, receipt: R)
-        requires picked { pick.place < waiting_in self.old.room.now }
-        requires clerk { pick.who < 32 }
+        requires { pick.place < waiting_in self.old.room.now }
         ensures lent { self.new.room.ghost_name ≡ self.old.room.ghost_name }
         ensures holds { (s : State) (b : Book) (o : Op) (a : Answer) → Serves can self.old.room.now self.new.room.now s pick b [] o a }
         ensures rest { rest_of self.new.room.now ≡ rest_of self.old.room.now }

@@ -1,9 +1,11 @@
 // The clerks' tables in the room, lent for as long as they are read or changed.
 ghost use Rattle.std.specs.Prelude.{◌≡◌, ◌<◌, ◌≤◌};
-ghost use Rattle.deals.specs.Tables.{Sound, count_at};
+ghost use Rattle.deals.specs.Tables.{Sound, count_at, lines_in};
 
 use super::layout::COUNTS_AT;
 use clerk::Clerk;
+use lines::own::lines_of;
+use lines::ring::Lines;
 
 // Lent to be read.
 #[derive(Clone, Copy)]
@@ -27,6 +29,13 @@ impl<'a> Tables<'a> {
         ensures clerk { c < 32 }
     {
         self.room[COUNTS_AT + c.index()] as usize
+    }
+
+    // The lines of the clerk's deal.
+    pub(crate) fn lines(&self, c: Clerk) -> Lines<'_>
+        ensures { result ≡ lines_in self.now.room.now c }
+    {
+        lines_of(self.room, c.index(), self.count(c))
     }
 }
 

@@ -13,15 +13,15 @@ use Rattle.deals.proofs.tables.Tables.in_ways.Goals.{then-other_in_way, else-oth
 abbrev in_way : List ℕ → ℕ → Want → ℕ → Bool
 in_way room c w e = not (eqb c e) && some_bars w (lines_in room e)
 
-pub loop-e-init : goal.loop-e-init
-loop-e-init c k = ap (λ m. has m k) c.none-set.ensures ∙ has_zero k ∙ sym (and_left (ltb k 0) (in_way c.args.self.now.room.now c.args.c c.args.want k) (le-ltb k 0 (omega arith)))
+pub loop-number-init : goal.loop-number-init
+loop-number-init c k = ap (λ m. has m k) c.none-set.ensures ∙ has_zero k ∙ sym (and_left (ltb k 0) (in_way c.args.self.now.room.now c.args.c c.args.want k) (le-ltb k 0 (omega arith)))
 
-pub loop-e-preserved : goal.loop-e-preserved
-loop-e-preserved c k =
+pub loop-number-preserved : goal.loop-number-preserved
+loop-number-preserved c k =
     let f = in_way c.args.self.now.room.now c.args.c c.args.want in
-    let e = c.loop-e.e in
+    let e = c.loop-number.number in
     elim c.if-other_in_way.branch [
       | then-other_in_way w ↦
-          ap (λ (x : ClerkSet). is_in x k) w.set-is ∙ set_in f (is_in c.loop-e.set) (is_in w.with-set.result) e c.loop-e.invariant w.with-set.ensures (ap f (sym c.new.ensures) ∙ sym w.if-other_in_way.ensures) k
-      | else-other_in_way w ↦ ap (λ (x : ClerkSet). is_in x k) w.set-is ∙ set_out f (is_in c.loop-e.set) e c.loop-e.invariant (ap f (sym c.new.ensures) ∙ sym w.if-other_in_way.ensures) k
+          ap (λ (x : ClerkSet). is_in x k) w.set-is ∙ set_in f (is_in c.loop-number.set) (is_in w.with-set.result) e c.loop-number.invariant (rw c.new-e.ensures at w.with-set.ensures) (ap f (sym c.new-e.ensures) ∙ sym w.if-other_in_way.ensures) k
+      | else-other_in_way w ↦ ap (λ (x : ClerkSet). is_in x k) w.set-is ∙ set_out f (is_in c.loop-number.set) e c.loop-number.invariant (ap f (sym c.new-e.ensures) ∙ sym w.if-other_in_way.ensures) k
     ]

@@ -10,7 +10,7 @@ returns c =
     let o = c.args.o in
     let a = c.args.a in
     let said : Said = record { op = o; told = a } in
-    let noted = rw c.new.ensures at c.tell.ensures in
+    let noted = c.tell.ensures in
     let closed = c.leave.ensures in
     record {
       lent = closed.lent ∙ noted.lent;

@@ -6,7 +6,7 @@ use Rattle.deals.proofs.tables.TablesMut.end.Goals as goal
 
 pub returns : goal.returns
 returns c =
-    let noted = rw c.new.ensures at c.forget.ensures in
+    let noted = c.forget.ensures in
     let closed = c.leave.ensures in
     record {
       lent = closed.lent ∙ noted.lent;
