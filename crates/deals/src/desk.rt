@@ -14,46 +14,57 @@ use lines::line::Line;
 use lines::marks::go_back;
 use lines::tables::{DEAL_WORDS, deal_ring};
 
-// The line that what was asked and told leaves. `above`: of a drop, the tree's first key above its own.
-fn line_for(o: Op, a: Answer, above: Option<u64>) -> Line
-    ensures { bare result ≡ line_for o a }
-{
-    match (o, a) {
-        (Op::Get(k), _) => Line::Read(k),
-        (Op::Put(k, x), _) => Line::Wrote(k, x),
-        (Op::Drop(k), _) => Line::Cleared(k, above),
-        (Op::Next(k), Answer::Missing) => Line::Scanned(k, None),
-        (Op::Next(k), Answer::Pair(found, _)) => Line::Scanned(k, Some(found)),
-        (Op::Mark, _) => Line::Marked,
-        _ => Line::Idle,
+// What was asked in a deal, and told.
+#[derive(Clone, Copy)]
+pub struct Telling {
+    pub op: Op,
+    pub answer: Answer,
+    // Of a drop, the tree's first key above its own.
+    pub above: Option<u64>,
+}
+
+// The line that it leaves.
+impl From<Telling> for Line {
+    ghost from_gives = { λ said line. bare line ≡ line_for said.op said.answer };
+
+    fn from(said: Telling) -> Line {
+        match (said.op, said.answer) {
+            (Op::Get(k), _) => Line::Read(k),
+            (Op::Put(k, x), _) => Line::Wrote(k, x),
+            (Op::Drop(k), _) => Line::Cleared(k, said.above),
+            (Op::Next(k), Answer::Missing) => Line::Scanned(k, None),
+            (Op::Next(k), Answer::Pair(found, _)) => Line::Scanned(k, Some(found)),
+            (Op::Mark, _) => Line::Marked,
+            _ => Line::Idle,
+        }
     }
 }
 
 // One more is told in a deal whose n lines stand in these words.
-fn note(words: &mut [u64], n: usize, o: Op, a: Answer, above: Option<u64>)
+fn note(words: &mut [u64], n: usize, said: Telling)
     requires { (length words.old ≡ 3072) × (n < 1024) }
-    ensures { (ss : List Said) → map bare (lines_of words.old (deal_ring n)) ≡ said_lines ss → map bare (lines_of words.new (deal_ring (n + 1))) ≡ said_lines (ss ++ record { op = o; told = a } ∷ []) }
+    ensures { (ss : List Said) → map bare (lines_of words.old (deal_ring n)) ≡ said_lines ss → map bare (lines_of words.new (deal_ring (n + 1))) ≡ said_lines (ss ++ record { op = said.op; told = said.answer } ∷ []) }
 {
     let ring = deal_ring(n);
-    if let Op::Back(j) = o {
+    if let Op::Back(j) = said.op {
         go_back(words, ring, j as usize + 1);
     }
-    ring.push(words, line_for(o, a, above));
+    ring.push(words, said.into());
 }
 
 impl<'a> TablesMut<'a> {
-    // The clerk, whose deal has fewer than 1,024 lines, is told a.
-    pub fn tell(&mut self, c: Clerk, o: Op, a: Answer, above: Option<u64>)
+    // The clerk, whose deal has fewer than 1,024 lines, is told this.
+    pub fn tell(&mut self, c: Clerk, said: Telling)
         requires { count_at self.old.room.now c < 1024 }
         ensures lent { self.new.room.ghost_name ≡ self.old.room.ghost_name }
-        ensures deals { (s : State) (n : Now) → Desk self.old.room.now s → Desk self.new.room.now (set_clerk c ((s.clerk c).deal ++ record { op = o; told = a } ∷ []) n s) }
+        ensures deals { (s : State) (n : Now) → Desk self.old.room.now s → Desk self.new.room.now (set_clerk c ((s.clerk c).deal ++ record { op = said.op; told = said.answer } ∷ []) n s) }
         ensures others { OnlyDeals self.old.room.now self.new.room.now }
     {
         let room = &mut *self.room;
         let deal = c.index();
         let n = room[COUNTS_AT + deal];
         let at = DEAL_WORDS * deal;
-        note(&mut room[at..at + DEAL_WORDS], n as usize, o, a, above);
+        note(&mut room[at..at + DEAL_WORDS], n as usize, said);
         room[COUNTS_AT + deal] = n + 1;
     }
 

@@ -6,9 +6,10 @@ ghost use Rattle.deals.specs.Tables.{count_at, waiting_in, rest_of};
 ghost use Rattle.deals.specs.LineUps.{TablesHold, Serves};
 ghost use Rattle.deals.specs.Ages.{IdleTurn, TurnGoes, OneTold, StaysYoung};
 
+use super::Op;
+use super::desk::Telling;
 use super::layout::{COUNTS_AT, ORDER_AT, WAITING_AT};
 use super::tables::TablesMut;
-use super::{Answer, Op};
 use clerk::Clerk;
 use locks::graph::Pick;
 
@@ -41,15 +42,15 @@ impl<'a> TablesMut<'a> {
         self.join(who);
     }
 
-    // The one picked is told a, within its deal.
-    pub fn answer(&mut self, pick: Pick, o: Op, a: Answer, above: Option<u64>)
+    // The one picked is told this, within its deal.
+    pub fn answer(&mut self, pick: Pick, said: Telling)
         requires picked { pick.place < waiting_in self.old.room.now }
         requires short { count_at self.old.room.now pick.who < 1024 }
         ensures lent { self.new.room.ghost_name ≡ self.old.room.ghost_name }
-        ensures holds { (s : State) → Serves can self.old.room.now self.new.room.now s pick s.book ((s.clerk pick.who).deal ++ record { op = o; told = a } ∷ []) o a }
+        ensures holds { (s : State) → Serves can self.old.room.now self.new.room.now s pick s.book ((s.clerk pick.who).deal ++ record { op = said.op; told = said.answer } ∷ []) said.op said.answer }
         ensures rest { rest_of self.new.room.now ≡ rest_of self.old.room.now }
     {
-        self.tell(pick.who, o, a, above);
+        self.tell(pick.who, said);
         self.leave(pick.place);
     }
 

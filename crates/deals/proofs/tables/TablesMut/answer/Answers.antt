@@ -7,8 +7,8 @@ use Rattle.deals.proofs.tables.TablesMut.answer.Goals as goal
 pub returns : goal.returns
 returns c =
     let p = c.args.pick in
-    let o = c.args.o in
-    let a = c.args.a in
+    let o = c.args.said.op in
+    let a = c.args.said.answer in
     let said : Said = record { op = o; told = a } in
     let noted = c.tell.ensures in
     let closed = c.leave.ensures in

@@ -16,7 +16,7 @@ returns c =
     let y = c.note.new.words in
     let who = c.args.c in
     let few : who < 32 = omega arith in
-    let said : Said = record { op = c.args.o; told = c.args.a } in
+    let said : Said = record { op = c.args.said.op; told = c.args.said.answer } in
     let k : ℕ = 3072 * who + 3072 - 3072 * who in
     let wide : k ≡ 3072 = omega arith in
     let long : length y ≡ k = omega arith in
