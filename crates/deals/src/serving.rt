@@ -6,10 +6,10 @@ ghost use Rattle.deals.specs.Tables.{count_at, waiting_in, rest_of};
 ghost use Rattle.deals.specs.LineUps.{TablesHold, Serves};
 ghost use Rattle.deals.specs.Ages.{IdleTurn, TurnGoes, OneTold, StaysYoung};
 
-use super::Op;
 use super::desk::Telling;
 use super::layout::{COUNTS_AT, ORDER_AT, WAITING_AT};
 use super::tables::TablesMut;
+use super::{Answer, Op};
 use clerk::Clerk;
 use locks::graph::Pick;
 
