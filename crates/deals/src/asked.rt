@@ -63,6 +63,7 @@ impl From<Op> for [u64; ASK_WORDS] {
 
 impl<'a> Tables<'a> {
     // What the clerk asks.
+    #[tactic(auto, unfolding(crate::specs::Tables::op_at))]
     pub fn read_op(&self, c: Clerk) -> Op
         ensures { result ≡ op_at self.now.room.now c }
     {

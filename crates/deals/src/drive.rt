@@ -26,14 +26,17 @@ impl<'a, D: Pages> Device for Drive<'a, D> {
         self.disk.pages()
     }
 
+    #[tactic(auto, using(crate::proofs::Drives::reads))]
     fn read(&mut self, p: u64, into: &mut [u64]) -> Result<(), store::Gone> {
         Ok(self.disk.read(p, into)?)
     }
 
+    #[tactic(auto, using(crate::proofs::Drives::wrote))]
     fn write(&mut self, p: u64, words: &[u64]) -> Result<(), store::Gone> {
         Ok(self.disk.write(p, words)?)
     }
 
+    #[tactic(auto, using(crate::proofs::Drives::synced))]
     fn sync(&mut self) -> Result<(), store::Gone> {
         Ok(self.disk.sync()?)
     }

@@ -9,6 +9,7 @@ use clerk::Clerk;
 
 impl<'a> Tables<'a> {
     // How many have asked.
+    #[tactic(auto, using(crate::proofs::Orders::order_long))]
     pub fn waiting(&self) -> usize
         ensures long { result ≡ length (order_of self.now.room.now) }
         ensures is { result ≡ waiting_in self.now.room.now }
@@ -17,6 +18,7 @@ impl<'a> Tables<'a> {
     }
 
     // Their numbers.
+    #[tactic(auto, using(crate::proofs::Graphing::order_part))]
     pub(crate) fn order(&self) -> &[u64]
         ensures { result.now ≡ order_of self.now.room.now }
     {
@@ -25,6 +27,7 @@ impl<'a> Tables<'a> {
     }
 
     // Who stands at place i.
+    #[tactic(auto, using(crate::proofs::Orders::order_at))]
     pub fn who_at(&self, i: usize) -> Clerk
         requires { i < waiting_in self.now.room.now }
         ensures { result ≡ slice_index (order_of self.now.room.now) i }
@@ -34,6 +37,7 @@ impl<'a> Tables<'a> {
 }
 
 // One more stands behind the first n.
+#[tactic(auto, using(std::proofs::lemmas::List::take_more_set))]
 fn stand_last(order: &mut [u64], n: usize, who: u32)
     requires { n < length order.old }
     ensures { take (n + 1) order.new ≡ take n order.old ++ who ∷ [] }

@@ -32,6 +32,7 @@ impl<'a> Tables<'a> {
     }
 
     // The lines of the clerk's deal.
+    #[tactic(auto, unfolding(crate::specs::Tables::lines_in))]
     pub(crate) fn lines(&self, c: Clerk) -> Lines<'_>
         ensures { result ≡ lines_in self.now.room.now c }
     {
