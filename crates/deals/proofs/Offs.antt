@@ -23,6 +23,10 @@ mid_off a k r y h e = record { long = mid_long a k r y h e; same = λ i g. elim 
 pub mid_at : (a k m : ℕ) (r y : List ℕ) → a + k ≤ length r → length y ≡ k → m ≡ k → take m (drop a (put_mid a k r y)) ≡ y
 mid_at a k m r y h e q = rw q (ap (λ j. take j (drop a (put_mid a k r y))) (let z : k ≡ a + k - a = omega arith in z) ∙ between-put_mid a k r y (a + k) (omega arith) (omega arith))
 
+-- within more words
+pub off_wider : (a n b m : ℕ) (r t : List ℕ) → Off a n r t → b ≤ a → a + n ≤ b + m → Off b m r t
+off_wider a n b m r t f h g = record { long = f.long; same = λ i l. f.same i (elim l [ inl x ↦ inl (omega arith) | inr x ↦ inr (omega arith) ]) }
+
 -- the three words of what is asked are written
 pub op_put : (w y : List ℕ) (c k : ℕ) → 259584 + 3 * c + 3 ≤ length w → length y ≡ k → k ≡ 3 → op_at (put_mid (259584 + 3 * c) k w y) c ≡ op_of y
 unfolding op_at

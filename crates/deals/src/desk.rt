@@ -14,7 +14,7 @@ use lines::line::Line;
 use lines::marks::go_back;
 use lines::tables::{DEAL_WORDS, deal_ring};
 
-// What was asked in a deal, and told.
+// What was asked in a deal, and told. `Op` and `Answer` are the statements' own, which cannot be compared or printed, so neither can this.
 #[derive(Clone, Copy)]
 pub struct Telling {
     pub op: Op,

@@ -6,7 +6,7 @@ use super::refusals::Refusal;
 use super::{Answer, Gone, Op, Pages};
 use clerk::Clerk;
 
-// Who has asked and hasn't been told, a bit for each clerk.
+// Who has asked and hasn't been told, a bit for each clerk. A `ClerkSet` would not do: it has no lowest, and lets nobody out.
 #[derive(Drop)]
 pub struct Office {
     waiting: u32,

@@ -1,5 +1,5 @@
 // Those who have asked, in the order in which they did.
-ghost use Rattle.std.specs.Prelude.{◌≡◌, ◌+◌, ◌-◌, ◌<◌, ◌≤◌, [], ◌∷◌, ◌++◌, length, take, slice_index};
+ghost use Rattle.std.specs.Prelude.{◌≡◌, ℕ, ◌+◌, ◌-◌, ◌<◌, ◌≤◌, [], ◌∷◌, ◌++◌, length, take, slice_index};
 ghost use Rattle.std.specs.List.{remove};
 ghost use Rattle.deals.specs.Tables.{OnlyOrder, waiting_in, order_of};
 
@@ -18,9 +18,11 @@ impl<'a> Tables<'a> {
     }
 
     // Their numbers.
-    #[tactic(auto, using(crate::proofs::Graphing::order_part))]
+    #[tactic(auto, using(crate::proofs::Graphing::order_part, crate::proofs::Orders::order_long, crate::proofs::Orders::order_few))]
     pub(crate) fn order(&self) -> &[u64]
-        ensures { result.now ≡ order_of self.now.room.now }
+        ensures is { result.now ≡ order_of self.now.room.now }
+        ensures long { length result.now ≡ waiting_in self.now.room.now }
+        ensures few { (k : ℕ) → k < length result.now → slice_index result.now k < 32 }
     {
         let n = self.waiting();
         &self.room[ORDER_AT..ORDER_AT + n]
@@ -36,21 +38,12 @@ impl<'a> Tables<'a> {
     }
 }
 
-// One more stands behind the first n.
-#[tactic(auto, using(std::proofs::lemmas::List::take_more_set))]
-fn stand_last(order: &mut [u64], n: usize, who: u32)
-    requires { n < length order.old }
-    ensures { take (n + 1) order.new ≡ take n order.old ++ who ∷ [] }
+// The one at this place is gone, and a word is left over at the end.
+fn close_up(order: &mut [u64], place: usize)
+    requires { place < length order.old }
+    ensures { take (length order.old - 1) order.new ≡ remove order.old place }
 {
-    order[n] = u64::from(who);
-}
-
-// The one at this place of the first n is gone.
-fn close_up(order: &mut [u64], n: usize, place: usize)
-    requires { (n ≤ length order.old) × (place < n) }
-    ensures { take (n - 1) order.new ≡ remove (take n order.old) place }
-{
-    order[place..n].rotate_left(1);
+    order[place..].rotate_left(1);
 }
 
 impl<'a> TablesMut<'a> {
@@ -63,7 +56,7 @@ impl<'a> TablesMut<'a> {
     {
         let room = &mut *self.room;
         let n = room[WAITING_AT];
-        stand_last(&mut room[ORDER_AT..WAITING_AT], n as usize, who.number());
+        room[ORDER_AT + n as usize] = u64::from(who.number());
         room[WAITING_AT] = n + 1;
     }
 
@@ -76,7 +69,7 @@ impl<'a> TablesMut<'a> {
     {
         let room = &mut *self.room;
         let n = room[WAITING_AT];
-        close_up(&mut room[ORDER_AT..WAITING_AT], n as usize, place);
+        close_up(&mut room[ORDER_AT..ORDER_AT + n as usize], place);
         room[WAITING_AT] = n - 1;
     }
 }

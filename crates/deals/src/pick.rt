@@ -66,6 +66,7 @@ impl<'a> Tables<'a> {
         ensures { (k : ℕ) → is_in result k ≡ (nat_lt k 32 && (not (c == k) && some_bars want (lines_in self.now.room.now k))) }
     {
         let mut set = ClerkSet::none();
+        // The clerks are their numbers: there is no table of them to go over.
         for number in 0..CLERKS as u32 {
             let e = Clerk::new(number);
             if self.other_in_way(c, e, want) {
@@ -136,8 +137,8 @@ impl<'a> Tables<'a> {
         ensures { (s : State) → TablesHold can true self.now.room.now s → ((c : ℕ) → c < 32 → FindsFor can self.now.room.now s c (slice_index_or found.now c None)) → Picked can s (order_of self.now.room.now) result }
     {
         let mut graph = WaitGraph::none();
-        for i in 0..self.waiting() {
-            self.note_waits(&mut graph, i, found[self.who_at(i).index()]);
+        for (place, number) in self.order().iter().enumerate() {
+            self.note_waits(&mut graph, place, found[*number as usize]);
         }
         self.choose(&graph)
     }

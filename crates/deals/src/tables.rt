@@ -8,13 +8,13 @@ use lines::own::lines_of;
 use lines::ring::Lines;
 
 // Lent to be read.
-#[derive(Clone, Copy)]
+#[derive(Clone, Copy, Debug, PartialEq, Eq)]
 pub struct Tables<'a> {
     pub room: &'a [u64],
     ghost sound: { Sound room.now },
 }
 
-// Lent to be changed.
+// Lent to be changed. It is no `Tables`, which are lent to many at a time.
 #[derive(Drop)]
 pub struct TablesMut<'a> {
     pub room: &'a mut [u64],

@@ -1,11 +1,12 @@
-use Rattle.std.proofs.Common.{refl, arith}
+use Rattle.std.proofs.Common.{ℕ, [], ◌∷◌, ◌++◌, refl, ap, ◌∙◌}
+use Rattle.deals.specs.Tables.{order_of}
 use Rattle.deals.proofs.Orders.{joined}
 use Rattle.deals.proofs.tables.TablesMut.join.Goals as goal
 
 pub invariant_of-self : goal.invariant_of-self
-invariant_of-self c = record { sound = (joined c.args.self.now.room.now c.stand_last.new.order c.number.result c.args.self.now.sound c.number.ensures.low c.requires (omega arith) c.stand_last.ensures).1.sound }
+invariant_of-self c = record { sound = rw c.from.ensures (joined c.args.self.now.room.now c.number.result c.args.self.now.sound c.number.ensures.low c.requires).1.sound }
 
 pub returns : goal.returns
 returns c =
-    let stood = joined c.args.self.now.room.now c.stand_last.new.order c.number.result c.args.self.now.sound c.number.ensures.low c.requires (omega arith) c.stand_last.ensures in
-    record { lent = refl; order = rw c.number.ensures.is at stood.0; others = stood.1 }
+    let stood = joined c.args.self.now.room.now c.number.result c.args.self.now.sound c.number.ensures.low c.requires in
+    rw c.from.ensures (record { lent = refl; order = stood.0 ∙ ap (λ (x : ℕ). order_of c.args.self.now.room.now ++ x ∷ []) c.number.ensures.is; others = stood.1 })
