@@ -1,5 +1,5 @@
 -- The order of those under way: where the earliest who counts is served each turn, nobody counts more than 32 turns.
-use Rattle.std.proofs.Common.{◌≡◌, ℕ, zero, suc, ◌+◌, ◌-◌, ◌<◌, ◌≤◌, Bool, true, false, ◌&&◌, T, ◌⊎◌, List, [], ◌∷◌, ◌++◌, length, get_or, sym, refl, ap, ◌∙◌, ap₂, inl, inr, arith}
+use Rattle.std.proofs.Common.{◌≡◌, ℕ, zero, suc, ◌+◌, ◌-◌, ◌<◌, ◌≤◌, Bool, true, false, T, ◌⊎◌, List, [], ◌∷◌, ◌++◌, length, get_or, sym, refl, ap, ◌∙◌, ap₂, inl, inr, arith}
 use Rattle.std.specs.List.{remove}
 use Rattle.std.proofs.lemmas.List.{length_push, get_or_push, get_or_append_left}
 use Rattle.std.proofs.lemmas.List.Edits.{length-remove, get_or-remove_below, get_or-remove_above}
@@ -238,15 +238,7 @@ unfolding is_under older age_of
 age_older b n u = grind arith
 
 pub line_turns : (can : Op → Bool) (s : State) (q : List ℕ) → LineUp can false s q → LineUp can true (aged can s) q
-line_turns can s q i =
-    record {
-      size = i.size ∙ count_same 32 (λ (c : ℕ). is_under (s.clerk c).now') (λ (c : ℕ). is_under ((aged can s).clerk c).now') (λ c l. sym (under_older (counts can s c) (s.clerk c).now'));
-      few = i.few;
-      under = λ k h. under_older (counts can s (get_or q k 0)) (s.clerk (get_or q k 0)).now' ∙ i.under k h;
-      once = i.once;
-      all = λ c l u. i.all c l (sym (under_older (counts can s c) (s.clerk c).now') ∙ u);
-      age = λ k h. omega (arith, i.age k h, age_older (counts can s (get_or q k 0)) (s.clerk (get_or q k 0)).now' (i.under k h), ap one_if (counts_aged can s (get_or q k 0)));
-    }
+line_turns can s q i = grind (arith, count_same, under_older, age_older, counts_aged)
 
 -- ONE IS TOLD
 pub line_tells : (can : Op → Bool) (s : State) (q : List ℕ) (c : ℕ) (o : Op) (a : Answer) (g : ℕ) → (s.clerk c).now' ≡ Over o a g → LineUp can true s q → LineUp can true (set_clerk c (s.clerk c).deal Quiet s) q
@@ -274,10 +266,7 @@ line_tells can s q c o a g z i =
 -- NOBODY IS OLD
 pub line_young : (can : Op → Bool) (more : Bool) (s : State) (q : List ℕ) (c : ℕ) (o : Op) (g : ℕ) → LineUp can more s q → c < 32 → (s.clerk c).now' ≡ Under o g → g ≤ 32
 unfolding is_under age_of
-line_young can more s q c o g i l z =
-    let w = i.all c l (ap is_under z) in
-    let e : age_of (s.clerk (get_or q w.0 0)).now' ≡ g = ap (λ x. age_of (s.clerk x).now') w.2 ∙ ap age_of z in
-    omega (arith, e, i.age w.0 w.1, one_most (more && counts can s (get_or q w.0 0)))
+line_young can more s q c o g i l z = grind (arith, one_most)
 
 -- at first, and after a cut
 none_under : (n : ℕ) (f : ℕ → Bool) → ((c : ℕ) → f c ≡ false) → count_to n f ≡ 0
@@ -286,12 +275,4 @@ none_under zero f h = refl
 none_under (suc n) f h = omega (arith, none_under n f h, ap one_if (h n))
 
 pub line_quiet : (can : Op → Bool) (s : State) → ((c : ℕ) → (s.clerk c).now' ≡ Quiet) → LineUp can true s []
-line_quiet can s h =
-    record {
-      size = sym (none_under 32 (λ (c : ℕ). is_under (s.clerk c).now') (λ c. under_quiet (s.clerk c).now' (h c)));
-      few = λ k l. absurd (omega arith);
-      under = λ k l. absurd (omega arith);
-      once = λ k j l m e. absurd (omega arith);
-      all = λ c l u. absurd (both_ways (is_under (s.clerk c).now') (under_quiet (s.clerk c).now' (h c)) u);
-      age = λ k l. absurd (omega arith);
-    }
+line_quiet can s h = grind (arith, none_under, under_quiet, both_ways)

@@ -1,5 +1,5 @@
 -- Deals of which none is in another's way: it stays so as deals go on, are made and are undone.
-use Rattle.std.proofs.Common.{◌≡◌, ℕ, Bool, true, false, not, ◌||◌, T, eqb, List, [], ◌∷◌, ◌++◌, sym, ◌∙◌, inl, inr, arith}
+use Rattle.std.proofs.Common.{◌≡◌, ℕ, Bool, true, false, not, ◌||◌, T, eqb, List, [], ◌∷◌, ◌++◌, sym, arith}
 use Rattle.std.proofs.lemmas.Bool.{eq-eqb, ne_eqb, cases_eq}
 use Rattle.deals.specs.declared.Op.{Op}
 use Rattle.deals.specs.declared.Op.TheVariants.{Get, Put, Drop, Next, Mark, Back, Commit, Undo}
@@ -98,41 +98,17 @@ pub apart_set : (s : State) (c : ℕ) (d : List Said) (n : Now) (b : Book) → A
     → ((e : ℕ) → (e ≡ c → ⊥) → T (agrees (s.clerk e).deal b []))
     → ((e : ℕ) → (e ≡ c → ⊥) → T (bars_none d (s.clerk e).deal) × T (bars_none (s.clerk e).deal d))
     → Apart (set_clerk c d n (record { book = b; clerk = s.clerk }))
-apart_set s c d n b i u t f g =
-    record {
-      up = u;
-      agree = λ j. elim (cases_eq j c) [ inl e ↦ rw (eq-eqb j c e) t | inr h ↦ rw (ne_eqb j c h) (f j h) ];
-      apart = λ j k h. elim (cases_eq j c) [
-        | inl e ↦ elim (cases_eq k c) [
-          | inl e' ↦ absurd (h (e ∙ sym e'))
-          | inr h' ↦ rw (eq-eqb j c e, ne_eqb k c h') (g k h').0
-        ]
-        | inr h' ↦ elim (cases_eq k c) [
-          | inl e ↦ rw (ne_eqb j c h', eq-eqb k c e) (g j h').1
-          | inr h'' ↦ rw (ne_eqb j c h', ne_eqb k c h'') (i.apart j k h)
-        ]
-      ];
-    }
+apart_set s c d n b i u t f g = grind (arith, cases_eq, eq-eqb, ne_eqb)
 
 -- it's told what it's told, and nobody's deal is in the way of that
 pub apart_told : (s : State) (c : ℕ) (o : Op) (a : Answer) (n : Now) → Apart s → told o (s.clerk c).deal s.book ≡ a
     → ((e : ℕ) → (e ≡ c → ⊥) → T (not (barred o a (s.clerk e).deal)))
     → Apart (set_clerk c ((s.clerk c).deal ++ (record { op = o; told = a } ∷ [])) n s)
-apart_told s c o a n i e f =
-    apart_set s c ((s.clerk c).deal ++ (record { op = o; told = a } ∷ [])) n s.book i i.up
-    (agrees_push (s.clerk c).deal (record { op = o; told = a }) s.book [] (i.agree c) e)
-    (λ j h. i.agree j)
-    (λ j h. (
-      bars_push (s.clerk c).deal (s.clerk j).deal (record { op = o; told = a }) (i.apart c j (λ q. h (sym q))) (f j h),
-      bars_more (s.clerk j).deal (s.clerk c).deal (record { op = o; told = a }) (i.apart j c h) (f j h),
-    ))
+apart_told s c o a n i e f = grind (arith, apart_set, agrees_push, bars_push, bars_more)
 
 -- a deal is made
 pub apart_made : (s : State) (c : ℕ) (n : Now) → Apart s → Apart (set_clerk c [] n (record { book = leaves (s.clerk c).deal s.book []; clerk = s.clerk }))
-apart_made s c n i =
-    apart_set s c [] n (leaves (s.clerk c).deal s.book []) i (up_leaves s.book (s.clerk c).deal i.up) (agrees_none (leaves (s.clerk c).deal s.book []))
-    (λ j h. keeps_others s.book (s.clerk c).deal (s.clerk j).deal (up_rising 0 s.book i.up) (i.agree c) (i.agree j) (i.apart j c h) (i.apart c j (λ q. h (sym q))))
-    (λ j h. (nothing_bars (s.clerk j).deal, bars_nothing (s.clerk j).deal))
+apart_made s c n i = grind (arith, apart_set, up_leaves, agrees_none, keeps_others, up_rising, nothing_bars, bars_nothing)
 
 -- a deal is undone, by its clerk or by us
 pub apart_undone : (s : State) (c : ℕ) (n : Now) → Apart s → Apart (set_clerk c [] n s)

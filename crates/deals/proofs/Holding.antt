@@ -1,11 +1,11 @@
 -- All of the clerks' tables, as one asks, is served and is told, and as turns go.
-use Rattle.std.proofs.Common.{◌≡◌, ℕ, ◌+◌, ◌*◌, ◌<◌, ◌≤◌, Bool, true, false, cond, List, [], ◌∷◌, ◌++◌, None, sym, refl, ap, ◌∙◌, subst, inl, inr, arith}
+use Rattle.std.proofs.Common.{◌≡◌, ℕ, ◌+◌, ◌*◌, ◌<◌, ◌≤◌, Bool, true, false, List, [], ◌∷◌, ◌++◌, None, sym, refl, ap, ◌∙◌, subst, inl, inr, arith}
 use Rattle.std.specs.List.{remove}
 use Rattle.std.proofs.lemmas.Bool.{cases_lt, cases_eq, eq-eqb, ne_eqb, false≢true}
 use Rattle.locks.specs.declared.graph.Pick.{Pick}
 use Rattle.deals.specs.declared.Op.{Op}
 use Rattle.deals.specs.declared.Answer.{Answer}
-use Rattle.deals.specs.Deals.{Book, Said, State, Now, Quiet, Under, Over, set_clerk, aged, older, counts}
+use Rattle.deals.specs.Deals.{Book, Said, State, Now, Quiet, Under, Over, set_clerk, aged, older}
 use Rattle.deals.specs.Tables.{count_at, op_at, waiting_in, order_of, is_under, Off, Sound, Desk, Asks, OnlyDeals, OnlyOrder, OnlyAsk}
 use Rattle.deals.specs.LineUps.{LineUp, TablesHold, Served, Picked}
 use Rattle.deals.proofs.Offs.{off_kept, kept_op, kept_lines, kept_order, kept_rest}
@@ -41,31 +41,15 @@ asks_like : (r t : List ℕ) (s : State) → ((c : ℕ) → c < 32 → op_at t c
 asks_like r t s h i c l u = let g = i c l u in (g.0, g.1 ∙ ap (λ o. Under o g.0) (sym (h c l)))
 
 asks_asked : (r t : List ℕ) (s : State) (c : ℕ) (d : List Said) (o : Op) → op_at t c ≡ o → ((e : ℕ) → e < 32 → (e ≡ c → ⊥) → op_at t e ≡ op_at r e) → Asks r s → Asks t (set_clerk c d (Under o 0) s)
-asks_asked r t s c d o new old i e l u =
-    elim (cases_eq e c) [
-      | inl q ↦ (0, set_same s s.book c e d (Under o 0) q ∙ ap (λ x. Under x 0) (sym (ap (op_at t) q ∙ new)))
-      | inr h ↦
-          let f : ((set_clerk c d (Under o 0) s).clerk e).now' ≡ (s.clerk e).now' = set_other s s.book c e d (Under o 0) h in
-          let g = i e l (sym (ap is_under f) ∙ u) in
-          (g.0, f ∙ g.1 ∙ ap (λ x. Under x g.0) (sym (old e l h)))
-    ]
+asks_asked r t s c d o new old i e l u = grind (arith, cases_eq, set_same, set_other)
 
 -- c is no more under way
 asks_set : (room : List ℕ) (s : State) (b : Book) (c : ℕ) (d : List Said) (n : Now) → is_under n ≡ false → Asks room s → Asks room (set_clerk c d n (record { book = b; clerk = s.clerk }))
-asks_set room s b c d n z i e l u =
-    elim (cases_eq e c) [
-      | inl q ↦ absurd (false≢true (sym z ∙ sym (ap is_under (set_same s b c e d n q)) ∙ u))
-      | inr h ↦
-          let f : ((set_clerk c d n (record { book = b; clerk = s.clerk })).clerk e).now' ≡ (s.clerk e).now' = set_other s b c e d n h in
-          let g = i e l (sym (ap is_under f) ∙ u) in
-          (g.0, f ∙ g.1)
-    ]
+asks_set room s b c d n z i e l u = grind (arith, cases_eq, false≢true, set_same, set_other)
 
 asks_aged : (can : Op → Bool) (room : List ℕ) (s : State) → Asks room s → Asks room (aged can s)
 unfolding older
-asks_aged can room s i e l u =
-    let g = i e l (sym (under_older (counts can s e) (s.clerk e).now') ∙ u) in
-    (cond (counts can s e) (g.0 + 1) g.0, ap (older (counts can s e)) g.1)
+asks_aged can room s i e l u = grind (arith, under_older)
 
 -- ONE ASKS, who has nothing under way
 pub same_deal : (s : State) (c : ℕ) (n : Now) (e : ℕ) → (s.clerk e).deal ≡ ((set_clerk c (s.clerk c).deal n s).clerk e).deal

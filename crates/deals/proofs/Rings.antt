@@ -30,11 +30,7 @@ is_in_below (suc n) f e h =
     ]
 
 pub is_in_those : (n : ℕ) (f : ℕ → Bool) (e : ℕ) → is_in e (those n f) ≡ (ltb e n && f e)
-is_in_those n f e =
-    elim (cases_lt e n) [
-      | inl h ↦ rw (lt-ltb e n h) (is_in_below n f e h)
-      | inr h ↦ rw (le-ltb e n h) (is_in_past n f e h)
-    ]
+is_in_those n f e = grind (arith, cases_lt, lt-ltb, is_in_below, le-ltb, is_in_past)
 
 -- from a set, all who are in it and all whom one of it waits for
 abbrev pub spread : (ℕ → ℕ → Bool) → (ℕ → Bool) → ℕ → Bool

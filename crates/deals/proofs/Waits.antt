@@ -28,10 +28,7 @@ some_grows zero f g h t = t
 some_grows (suc n) f g h t = or_grows (some' n f) (f n) (some' n g) (g n) (some_grows n f g h) (h n) t
 
 spread_grows : (w v : ℕ → ℕ → Bool) (s r : ℕ → Bool) → ((d e : ℕ) → T (w d e) → T (v d e)) → ((e : ℕ) → T (s e) → T (r e)) → (e : ℕ) → T (spread w s e) → T (spread v r e)
-spread_grows w v s r f g e =
-    and_grows (ltb e 32) (s e || some' 32 (λ (d : ℕ). s d && w d e)) (ltb e 32) (r e || some' 32 (λ (d : ℕ). r d && v d e)) (λ t. t)
-    (or_grows (s e) (some' 32 (λ (d : ℕ). s d && w d e)) (r e) (some' 32 (λ (d : ℕ). r d && v d e)) (g e)
-    (some_grows 32 (λ (d : ℕ). s d && w d e) (λ (d : ℕ). r d && v d e) (λ d. and_grows (s d) (w d e) (r d) (v d e) (g d) (f d e))))
+spread_grows w v s r f g e = grind (arith, and_grows, or_grows, some_grows)
 
 pub reached_grows : (n : ℕ) (w v : ℕ → ℕ → Bool) (s r : ℕ → Bool) → ((d e : ℕ) → T (w d e) → T (v d e)) → ((e : ℕ) → T (s e) → T (r e)) → (e : ℕ) → T (reached n w s e) → T (reached n v r e)
 reached_grows zero w v s r f g e t = g e t
