@@ -1,5 +1,5 @@
 -- The order of those under way: where the earliest who counts is served each turn, nobody counts more than 32 turns.
-use Rattle.std.proofs.Common.{◌≡◌, ℕ, zero, suc, ◌+◌, ◌-◌, ◌<◌, ◌≤◌, Bool, true, false, ◌&&◌, T, ◌⊎◌, List, [], ◌∷◌, ◌++◌, length, get_or, sym, refl, ap, ◌∙◌, ap₂, inl, inr, arith}
+use Rattle.std.proofs.Common.{◌≡◌, ℕ, zero, suc, ◌+◌, ◌-◌, ◌<◌, ◌≤◌, Bool, true, false, T, ◌⊎◌, List, [], ◌∷◌, ◌++◌, length, get_or, sym, refl, ap, ◌∙◌, ap₂, inl, inr, arith}
 use Rattle.std.specs.List.{remove}
 use Rattle.std.proofs.lemmas.List.{length_push, get_or_push, get_or_append_left}
 use Rattle.std.proofs.lemmas.List.Edits.{length-remove, get_or-remove_below, get_or-remove_above}
@@ -10,11 +10,9 @@ use Rattle.deals.specs.Deals.{Book, Said, State, Now, Quiet, Under, Over, set_cl
 use Rattle.deals.specs.Tables.{is_under}
 use Rattle.deals.specs.LineUps.{age_of, one_if, count_to, LineUp}
 use Rattle.deals.proofs.Waits.{counts_aged, counts_told, counts_asked}
-use Rattle.deals.proofs.Rings.{none_below}
 
 one_most : (b : Bool) → one_if b ≤ 1
-one_most true = omega arith
-one_most false = omega arith
+one_most b = grind arith
 
 count_same : (n : ℕ) (f g : ℕ → Bool) → ((c : ℕ) → c < n → f c ≡ g c) → count_to n f ≡ count_to n g
 unfolding count_to
@@ -23,13 +21,13 @@ count_same (suc n) f g h = ap₂ (λ x y. x + one_if y) (count_same n f g (λ c 
 
 count_set : (n : ℕ) (f g : ℕ → Bool) (c : ℕ) → c < n → f c ≡ false → g c ≡ true → ((e : ℕ) → (e ≡ c → ⊥) → f e ≡ g e) → count_to n g ≡ count_to n f + 1
 unfolding count_to
-count_set zero f g c l p q h = absurd (none_below c l)
+count_set zero f g c l p q h = absurd (omega arith)
 count_set (suc n) f g c l p q h =
     elim (cases_eq c n) [
       | inl i ↦
           let a : one_if (g n) ≡ 1 = ap one_if (sym (ap g i) ∙ q) in
           let b : one_if (f n) ≡ 0 = ap one_if (sym (ap f i) ∙ p) in
-          omega (arith, count_same n f g (λ e k. h e (λ j. absurd (none_below 0 (omega arith)))))
+          omega (arith, count_same n f g (λ e k. h e (λ j. absurd (omega arith))))
       | inr d ↦ omega (arith, count_set n f g c (omega arith) p q h, ap one_if (h n (λ j. d (sym j))))
     ]
 
@@ -40,7 +38,7 @@ count_most (suc n) f = omega (arith, count_most n f, one_most (f n))
 
 count_short : (n : ℕ) (f : ℕ → Bool) (c : ℕ) → c < n → f c ≡ false → count_to n f < n
 unfolding count_to
-count_short zero f c l p = absurd (none_below c l)
+count_short zero f c l p = absurd (omega arith)
 count_short (suc n) f c l p =
     elim (cases_eq c n) [
       | inl i ↦ omega (arith, count_most n f, ap one_if (sym (ap f i) ∙ p))
@@ -59,10 +57,7 @@ pub set_other : (s : State) (b : Book) (c e : ℕ) (d : List Said) (n : Now) →
 set_other s b c e d n h = rw (ne_eqb e c h)
 
 one_grows : (x y : Bool) → (T x → T y) → one_if x ≤ one_if y
-one_grows true true h = omega arith
-one_grows true false h = absurd (h tt)
-one_grows false true h = omega arith
-one_grows false false h = omega arith
+one_grows x y h = grind arith
 
 -- ONE ASKS
 module _ (can : Op → Bool) (s : State) (q : List ℕ) (c : ℕ) (o : Op) (i : LineUp can true s q) (l : c < 32) (z : (s.clerk c).now' ≡ Quiet) where
@@ -179,7 +174,7 @@ to_at q j m l h d =
     ]
 
 from_not : (q : List ℕ) (j k : ℕ) (f : From q j k) → f.at ≡ j → ⊥
-from_not q j k f e = elim f.less [ inl x ↦ absurd (none_below 0 (omega arith)) | inr x ↦ absurd (none_below 0 (omega arith)) ]
+from_not q j k f e = elim f.less [ inl x ↦ absurd (omega arith) | inr x ↦ absurd (omega arith) ]
 
 from_one : (q : List ℕ) (j k m : ℕ) (f : From q j k) (g : From q j m) → f.at ≡ g.at → k ≡ m
 from_one q j k m f g e = elim f.less [ inl x ↦ elim g.less [ inl y ↦ omega arith | inr y ↦ omega arith ] | inr x ↦ elim g.less [ inl y ↦ omega arith | inr y ↦ omega arith ] ]
@@ -236,27 +231,14 @@ line_none can s q i h = record { size = i.size; few = i.few; under = i.under; on
 -- A TURN HAS GONE
 pub under_older : (b : Bool) (n : Now) → is_under (older b n) ≡ is_under n
 unfolding is_under older
-under_older b Quiet = refl
-under_older b (Under o g) = refl
-under_older b (Over o a g) = refl
+under_older b n = grind arith
 
 age_older : (b : Bool) (n : Now) → is_under n ≡ true → age_of (older b n) ≡ age_of n + one_if b
 unfolding is_under older age_of
-age_older b Quiet u = absurd (both_ways false refl u)
-age_older true (Under o g) u = refl
-age_older false (Under o g) u = omega arith
-age_older b (Over o a g) u = absurd (both_ways false refl u)
+age_older b n u = grind arith
 
 pub line_turns : (can : Op → Bool) (s : State) (q : List ℕ) → LineUp can false s q → LineUp can true (aged can s) q
-line_turns can s q i =
-    record {
-      size = i.size ∙ count_same 32 (λ (c : ℕ). is_under (s.clerk c).now') (λ (c : ℕ). is_under ((aged can s).clerk c).now') (λ c l. sym (under_older (counts can s c) (s.clerk c).now'));
-      few = i.few;
-      under = λ k h. under_older (counts can s (get_or q k 0)) (s.clerk (get_or q k 0)).now' ∙ i.under k h;
-      once = i.once;
-      all = λ c l u. i.all c l (sym (under_older (counts can s c) (s.clerk c).now') ∙ u);
-      age = λ k h. omega (arith, i.age k h, age_older (counts can s (get_or q k 0)) (s.clerk (get_or q k 0)).now' (i.under k h), ap one_if (counts_aged can s (get_or q k 0)));
-    }
+line_turns can s q i = grind (arith, count_same, under_older, age_older, counts_aged)
 
 -- ONE IS TOLD
 pub line_tells : (can : Op → Bool) (s : State) (q : List ℕ) (c : ℕ) (o : Op) (a : Answer) (g : ℕ) → (s.clerk c).now' ≡ Over o a g → LineUp can true s q → LineUp can true (set_clerk c (s.clerk c).deal Quiet s) q
@@ -284,10 +266,7 @@ line_tells can s q c o a g z i =
 -- NOBODY IS OLD
 pub line_young : (can : Op → Bool) (more : Bool) (s : State) (q : List ℕ) (c : ℕ) (o : Op) (g : ℕ) → LineUp can more s q → c < 32 → (s.clerk c).now' ≡ Under o g → g ≤ 32
 unfolding is_under age_of
-line_young can more s q c o g i l z =
-    let w = i.all c l (ap is_under z) in
-    let e : age_of (s.clerk (get_or q w.0 0)).now' ≡ g = ap (λ x. age_of (s.clerk x).now') w.2 ∙ ap age_of z in
-    omega (arith, e, i.age w.0 w.1, one_most (more && counts can s (get_or q w.0 0)))
+line_young can more s q c o g i l z = grind (arith, one_most)
 
 -- at first, and after a cut
 none_under : (n : ℕ) (f : ℕ → Bool) → ((c : ℕ) → f c ≡ false) → count_to n f ≡ 0
@@ -296,12 +275,4 @@ none_under zero f h = refl
 none_under (suc n) f h = omega (arith, none_under n f h, ap one_if (h n))
 
 pub line_quiet : (can : Op → Bool) (s : State) → ((c : ℕ) → (s.clerk c).now' ≡ Quiet) → LineUp can true s []
-line_quiet can s h =
-    record {
-      size = sym (none_under 32 (λ (c : ℕ). is_under (s.clerk c).now') (λ c. under_quiet (s.clerk c).now' (h c)));
-      few = λ k l. absurd (none_below k l);
-      under = λ k l. absurd (none_below k l);
-      once = λ k j l m e. absurd (none_below k l);
-      all = λ c l u. absurd (both_ways (is_under (s.clerk c).now') (under_quiet (s.clerk c).now' (h c)) u);
-      age = λ k l. absurd (none_below k l);
-    }
+line_quiet can s h = grind (arith, none_under, under_quiet, both_ways)

@@ -1,5 +1,5 @@
 -- Deals of which none is in another's way: it stays so as deals go on, are made and are undone.
-use Rattle.std.proofs.Common.{◌≡◌, ℕ, Bool, true, false, not, ◌||◌, T, eqb, List, [], ◌∷◌, ◌++◌, sym, refl, ap, ◌∙◌, ap₂, inl, inr}
+use Rattle.std.proofs.Common.{◌≡◌, ℕ, Bool, true, false, not, ◌||◌, T, eqb, List, [], ◌∷◌, ◌++◌, sym, arith}
 use Rattle.std.proofs.lemmas.Bool.{eq-eqb, ne_eqb, cases_eq}
 use Rattle.deals.specs.declared.Op.{Op}
 use Rattle.deals.specs.declared.Op.TheVariants.{Get, Put, Drop, Next, Mark, Back, Commit, Undo}
@@ -21,132 +21,31 @@ touches (Back i) a p c = false
 touches Commit a p c = false
 touches Undo a p c = false
 
-or_swap : (w W l L : Bool) → ((w || W) || (l || L)) ≡ ((w || l) || (W || L))
-or_swap true W l L = refl
-or_swap false true true L = refl
-or_swap false true false L = refl
-or_swap false false true L = refl
-or_swap false false false L = refl
-
 pub barred_cons : (o : Op) (a : Answer) (t : Said) (ts : List Said) → barred o a (t ∷ ts) ≡ (touches o a t.op t.told || barred o a ts)
 unfolding barred some_writes some_looked write_within
-barred_cons (Get k) a t ts = refl
-barred_cons (Put k x) a t ts = or_swap (writes k t.op) (some_writes k ts) (looked k t.op t.told) (some_looked k ts)
-barred_cons (Drop k) a t ts = or_swap (writes k t.op) (some_writes k ts) (looked k t.op t.told) (some_looked k ts)
-barred_cons (Next k) a t ts = refl
-barred_cons Mark a t ts = refl
-barred_cons (Back i) a t ts = refl
-barred_cons Commit a t ts = refl
-barred_cons Undo a t ts = refl
+barred_cons o a t ts = grind arith
 
 pub barred_none : (o : Op) (a : Answer) → barred o a [] ≡ false
 unfolding barred some_writes some_looked write_within
-barred_none (Get k) a = refl
-barred_none (Put k x) a = refl
-barred_none (Drop k) a = refl
-barred_none (Next k) a = refl
-barred_none Mark a = refl
-barred_none (Back i) a = refl
-barred_none Commit a = refl
-barred_none Undo a = refl
+barred_none o a = grind arith
 
 eqb_flip : (k j : ℕ) → eqb k j ≡ eqb j k
-eqb_flip k j = elim (cases_eq k j) [ inl e ↦ eq-eqb k j e ∙ sym (eq-eqb j k (sym e)) | inr d ↦ ne_eqb k j d ∙ sym (ne_eqb j k (λ e. d (sym e))) ]
-
-or_none : (x : Bool) → (x || false) ≡ x
-or_none true = refl
-or_none false = refl
-
-or_self : (x : Bool) → (x || x) ≡ x
-or_self true = refl
-or_self false = refl
-
-or_over : (x y z : Bool) → (x || (y || z)) ≡ ((x || y) || z)
-or_over true y z = refl
-or_over false y z = refl
+eqb_flip k j = grind arith
 
 -- who is in whose way goes both ways
 pub touches_back : (o : Op) (a : Answer) (p : Op) (c : Answer) → touches o a p c ≡ touches p c o a
 unfolding writes looked write_up_to
-touches_back (Get k) a (Get j) c = refl
-touches_back (Get k) a (Put j j') c = eqb_flip k j
-touches_back (Get k) a (Drop j) c = eqb_flip k j
-touches_back (Get k) a (Next j) c = refl
-touches_back (Get k) a Mark c = refl
-touches_back (Get k) a (Back j) c = refl
-touches_back (Get k) a Commit c = refl
-touches_back (Get k) a Undo c = refl
-touches_back (Put k k') a (Get j) c = eqb_flip k j
-touches_back (Put k k') a (Put j j') c = ap (λ x. x || false) (eqb_flip k j)
-touches_back (Put k k') a (Drop j) c = or_self (eqb k j) ∙ eqb_flip k j ∙ sym (or_none (eqb j k))
-touches_back (Put k k') a (Next j) c = refl
-touches_back (Put k k') a Mark c = refl
-touches_back (Put k k') a (Back j) c = refl
-touches_back (Put k k') a Commit c = refl
-touches_back (Put k k') a Undo c = refl
-touches_back (Drop k) a (Get j) c = eqb_flip k j
-touches_back (Drop k) a (Put j j') c = or_none (eqb k j) ∙ eqb_flip k j ∙ sym (or_self (eqb j k))
-touches_back (Drop k) a (Drop j) c = ap₂ ◌||◌ (eqb_flip k j) (eqb_flip k j)
-touches_back (Drop k) a (Next j) c = refl
-touches_back (Drop k) a Mark c = refl
-touches_back (Drop k) a (Back j) c = refl
-touches_back (Drop k) a Commit c = refl
-touches_back (Drop k) a Undo c = refl
-touches_back (Next k) a (Get j) c = refl
-touches_back (Next k) a (Put j j') c = refl
-touches_back (Next k) a (Drop j) c = refl
-touches_back (Next k) a (Next j) c = refl
-touches_back (Next k) a Mark c = refl
-touches_back (Next k) a (Back j) c = refl
-touches_back (Next k) a Commit c = refl
-touches_back (Next k) a Undo c = refl
-touches_back Mark a (Get j) c = refl
-touches_back Mark a (Put j j') c = refl
-touches_back Mark a (Drop j) c = refl
-touches_back Mark a (Next j) c = refl
-touches_back Mark a Mark c = refl
-touches_back Mark a (Back j) c = refl
-touches_back Mark a Commit c = refl
-touches_back Mark a Undo c = refl
-touches_back (Back k) a (Get j) c = refl
-touches_back (Back k) a (Put j j') c = refl
-touches_back (Back k) a (Drop j) c = refl
-touches_back (Back k) a (Next j) c = refl
-touches_back (Back k) a Mark c = refl
-touches_back (Back k) a (Back j) c = refl
-touches_back (Back k) a Commit c = refl
-touches_back (Back k) a Undo c = refl
-touches_back Commit a (Get j) c = refl
-touches_back Commit a (Put j j') c = refl
-touches_back Commit a (Drop j) c = refl
-touches_back Commit a (Next j) c = refl
-touches_back Commit a Mark c = refl
-touches_back Commit a (Back j) c = refl
-touches_back Commit a Commit c = refl
-touches_back Commit a Undo c = refl
-touches_back Undo a (Get j) c = refl
-touches_back Undo a (Put j j') c = refl
-touches_back Undo a (Drop j) c = refl
-touches_back Undo a (Next j) c = refl
-touches_back Undo a Mark c = refl
-touches_back Undo a (Back j) c = refl
-touches_back Undo a Commit c = refl
-touches_back Undo a Undo c = refl
+touches_back o a p c = grind (arith, eqb_flip)
 
 pub barred_push : (o : Op) (a : Answer) (ts : List Said) (t : Said) → barred o a (ts ++ t ∷ []) ≡ (barred o a ts || touches o a t.op t.told)
-barred_push o a [] t = barred_cons o a t [] ∙ ap (λ x. touches o a t.op t.told || x) (barred_none o a) ∙ or_none (touches o a t.op t.told) ∙ sym (ap (λ x. x || touches o a t.op t.told) (barred_none o a))
-barred_push o a (r ∷ ts) t =
-    barred_cons o a r (ts ++ t ∷ []) ∙ ap (λ x. touches o a r.op r.told || x) (barred_push o a ts t)
-    ∙ or_over (touches o a r.op r.told) (barred o a ts) (touches o a t.op t.told)
-    ∙ ap (λ x. x || touches o a t.op t.told) (sym (barred_cons o a r ts))
+barred_push o a [] t = grind (arith, barred_cons, barred_none)
+barred_push o a (r ∷ ts) t = grind (arith, barred_cons, barred_push o a ts t)
 
 nor : (x y : Bool) → T (not x) → T (not y) → T (not (x || y))
-nor true y s t = s
-nor false y s t = t
+nor x y s t = grind arith
 
 nor_parts : (x y : Bool) → T (not (x || y)) → T (not x) × T (not y)
-nor_parts true y t = absurd t
-nor_parts false y t = (tt, t)
+nor_parts x y t = grind arith
 
 -- a deal that isn't in the way of s, of which nothing is in the way of mine: nor when mine has s too
 pub bars_more : (theirs mine : List Said) (s : Said) → T (bars_none theirs mine) → T (not (barred s.op s.told theirs)) → T (bars_none theirs (mine ++ s ∷ []))
@@ -199,41 +98,17 @@ pub apart_set : (s : State) (c : ℕ) (d : List Said) (n : Now) (b : Book) → A
     → ((e : ℕ) → (e ≡ c → ⊥) → T (agrees (s.clerk e).deal b []))
     → ((e : ℕ) → (e ≡ c → ⊥) → T (bars_none d (s.clerk e).deal) × T (bars_none (s.clerk e).deal d))
     → Apart (set_clerk c d n (record { book = b; clerk = s.clerk }))
-apart_set s c d n b i u t f g =
-    record {
-      up = u;
-      agree = λ j. elim (cases_eq j c) [ inl e ↦ rw (eq-eqb j c e) t | inr h ↦ rw (ne_eqb j c h) (f j h) ];
-      apart = λ j k h. elim (cases_eq j c) [
-        | inl e ↦ elim (cases_eq k c) [
-          | inl e' ↦ absurd (h (e ∙ sym e'))
-          | inr h' ↦ rw (eq-eqb j c e, ne_eqb k c h') (g k h').0
-        ]
-        | inr h' ↦ elim (cases_eq k c) [
-          | inl e ↦ rw (ne_eqb j c h', eq-eqb k c e) (g j h').1
-          | inr h'' ↦ rw (ne_eqb j c h', ne_eqb k c h'') (i.apart j k h)
-        ]
-      ];
-    }
+apart_set s c d n b i u t f g = grind (arith, cases_eq, eq-eqb, ne_eqb)
 
 -- it's told what it's told, and nobody's deal is in the way of that
 pub apart_told : (s : State) (c : ℕ) (o : Op) (a : Answer) (n : Now) → Apart s → told o (s.clerk c).deal s.book ≡ a
     → ((e : ℕ) → (e ≡ c → ⊥) → T (not (barred o a (s.clerk e).deal)))
     → Apart (set_clerk c ((s.clerk c).deal ++ (record { op = o; told = a } ∷ [])) n s)
-apart_told s c o a n i e f =
-    apart_set s c ((s.clerk c).deal ++ (record { op = o; told = a } ∷ [])) n s.book i i.up
-    (agrees_push (s.clerk c).deal (record { op = o; told = a }) s.book [] (i.agree c) e)
-    (λ j h. i.agree j)
-    (λ j h. (
-      bars_push (s.clerk c).deal (s.clerk j).deal (record { op = o; told = a }) (i.apart c j (λ q. h (sym q))) (f j h),
-      bars_more (s.clerk j).deal (s.clerk c).deal (record { op = o; told = a }) (i.apart j c h) (f j h),
-    ))
+apart_told s c o a n i e f = grind (arith, apart_set, agrees_push, bars_push, bars_more)
 
 -- a deal is made
 pub apart_made : (s : State) (c : ℕ) (n : Now) → Apart s → Apart (set_clerk c [] n (record { book = leaves (s.clerk c).deal s.book []; clerk = s.clerk }))
-apart_made s c n i =
-    apart_set s c [] n (leaves (s.clerk c).deal s.book []) i (up_leaves s.book (s.clerk c).deal i.up) (agrees_none (leaves (s.clerk c).deal s.book []))
-    (λ j h. keeps_others s.book (s.clerk c).deal (s.clerk j).deal (up_rising 0 s.book i.up) (i.agree c) (i.agree j) (i.apart j c h) (i.apart c j (λ q. h (sym q))))
-    (λ j h. (nothing_bars (s.clerk j).deal, bars_nothing (s.clerk j).deal))
+apart_made s c n i = grind (arith, apart_set, up_leaves, agrees_none, keeps_others, up_rising, nothing_bars, bars_nothing)
 
 -- a deal is undone, by its clerk or by us
 pub apart_undone : (s : State) (c : ℕ) (n : Now) → Apart s → Apart (set_clerk c [] n s)

@@ -1,8 +1,8 @@
 -- The lines of a deal as one more is told, and as it goes back to a mark.
-use Rattle.std.proofs.Common.{◌≡◌, ℕ, zero, suc, ◌+◌, Bool, true, false, cond, List, [], ◌∷◌, ◌++◌, map, sym, refl, ap, ◌∙◌, ap₂, add-one}
+use Rattle.std.proofs.Common.{◌≡◌, ℕ, zero, suc, ◌+◌, Bool, true, false, cond, List, [], ◌∷◌, ◌++◌, map, sym, refl, ap, ◌∙◌, ap₂, add-one, arith}
 use Rattle.std.proofs.lemmas.List.{map_push}
 use Rattle.deals.specs.declared.Op.{Op}
-use Rattle.deals.specs.declared.Op.TheVariants.{Get, Put, Drop, Next, Mark, Back, Commit, Undo}
+use Rattle.deals.specs.declared.Op.TheVariants.{Back}
 use Rattle.lines.specs.declared.line.Line.{Line}
 use Rattle.lines.specs.declared.line.Line.TheVariants.{Idle, Wrote, Cleared, Stale, Read, Scanned, Marked}
 use Rattle.lines.specs.declared.ring.Ring.{Ring}
@@ -22,32 +22,14 @@ is_mark Marked = true
 
 -- as long as a mark stays, lines do
 pub back_on : (n : ℕ) (l : Line) (ls : List Line) → backed (suc n) (l ∷ ls) ≡ l ∷ backed (cond (is_mark l) n (suc n)) ls
-back_on n Idle ls = refl
-back_on n (Wrote k x) ls = refl
-back_on n (Cleared k s) ls = refl
-back_on n (Stale k) ls = refl
-back_on n (Read k) ls = refl
-back_on n (Scanned k f) ls = refl
-back_on n Marked ls = refl
+back_on n l ls = grind arith
 
 -- what a line says of the tree doesn't matter
 pub bare_mark : (l : Line) → is_mark (bare l) ≡ is_mark l
-bare_mark Idle = refl
-bare_mark (Wrote k x) = refl
-bare_mark (Cleared k s) = refl
-bare_mark (Stale k) = refl
-bare_mark (Read k) = refl
-bare_mark (Scanned k f) = refl
-bare_mark Marked = refl
+bare_mark l = grind arith
 
 bare_stale : (l : Line) → bare (stale l) ≡ stale (bare l)
-bare_stale Idle = refl
-bare_stale (Wrote k x) = refl
-bare_stale (Cleared k s) = refl
-bare_stale (Stale k) = refl
-bare_stale (Read k) = refl
-bare_stale (Scanned k f) = refl
-bare_stale Marked = refl
+bare_stale l = grind arith
 
 bare_backed : (n : ℕ) (ls : List Line) → map bare (backed n ls) ≡ backed n (map bare ls)
 bare_backed n [] = refl
@@ -57,24 +39,10 @@ bare_backed (suc n) (l ∷ ls) =
     ∙ sym (back_on n (bare l) (map bare ls))
 
 bare_gone : (o : Op) (ls : List Line) → map bare (gone_by o ls) ≡ gone_by o (map bare ls)
-bare_gone (Get k) ls = refl
-bare_gone (Put k x) ls = refl
-bare_gone (Drop k) ls = refl
-bare_gone (Next k) ls = refl
-bare_gone Mark ls = refl
-bare_gone (Back j) ls = bare_backed (suc j) ls
-bare_gone Commit ls = refl
-bare_gone Undo ls = refl
+bare_gone o ls = grind (arith, bare_backed)
 
 pub gone_none : (o : Op) (ls : List Line) → ((j : ℕ) → o ≡ Back j → ⊥) → gone_by o ls ≡ ls
-gone_none (Get k) ls h = refl
-gone_none (Put k x) ls h = refl
-gone_none (Drop k) ls h = refl
-gone_none (Next k) ls h = refl
-gone_none Mark ls h = refl
-gone_none (Back j) ls h = absurd (h j refl)
-gone_none Commit ls h = refl
-gone_none Undo ls h = refl
+gone_none o ls h = grind arith
 
 -- ONE MORE IS TOLD
 said_push : (ls : List Line) (ss : List Said) (s : Said) → lines_from ls (ss ++ s ∷ []) ≡ then_lines s (lines_from ls ss)

@@ -1,11 +1,8 @@
 -- The lines of a deal are in the way of what is asked exactly where the deal is.
-use Rattle.std.proofs.Common.{◌≡◌, ℕ, zero, suc, Bool, true, false, cond, ◌||◌, List, [], ◌∷◌, map, Option, sym, refl, ap, ◌∙◌, ap₂}
+use Rattle.std.proofs.Common.{◌≡◌, ℕ, zero, suc, Bool, false, cond, ◌||◌, List, [], ◌∷◌, map, Option, sym, refl, ap, ◌∙◌, ap₂, arith}
 use Rattle.deals.specs.declared.Op.{Op}
-use Rattle.deals.specs.declared.Op.TheVariants.{Get, Put, Drop, Next, Mark, Back, Commit, Undo}
 use Rattle.deals.specs.declared.Answer.{Answer}
-use Rattle.deals.specs.declared.Answer.TheVariants.{Done, Missing, Word, Pair, Point, No, Full, Clash}
 use Rattle.lines.specs.declared.line.Line.{Line}
-use Rattle.lines.specs.declared.line.Line.TheVariants.{Idle, Wrote, Cleared, Stale, Read, Scanned, Marked}
 use Rattle.lines.specs.Marks.{stale, backed}
 use Rattle.locks.specs.declared.way.Want.{Want}
 use Rattle.locks.specs.declared.way.Want.TheVariants.{Nothing, Look, Write, Scan}
@@ -20,30 +17,15 @@ abbrev Alike : Line → Line → Type 0
 Alike l m = ((k : ℕ) → writes_key k m ≡ writes_key k l) × ((k : ℕ) → looks_key k m ≡ looks_key k l) × ((j : ℕ) (f : Option ℕ) → writes_within j f m ≡ writes_within j f l)
 
 alike_bars : (w : Want) (l m : Line) → Alike l m → bars w m ≡ bars w l
-alike_bars Nothing l m a = refl
-alike_bars (Look k) l m a = a.0 k
-alike_bars (Write k) l m a = ap₂ ◌||◌ (a.0 k) (a.1 k)
-alike_bars (Scan j f) l m a = a.2 j f
+alike_bars w l m a = grind arith
 
 -- what is gone back over is as much in the way as before
 stale_alike : (l : Line) → Alike l (stale l)
-stale_alike Idle = (λ k. refl, λ k. refl, λ j f. refl)
-stale_alike (Wrote q x) = (λ k. refl, λ k. refl, λ j f. refl)
-stale_alike (Cleared q s) = (λ k. refl, λ k. refl, λ j f. refl)
-stale_alike (Stale q) = (λ k. refl, λ k. refl, λ j f. refl)
-stale_alike (Read q) = (λ k. refl, λ k. refl, λ j f. refl)
-stale_alike (Scanned q g) = (λ k. refl, λ k. refl, λ j f. refl)
-stale_alike Marked = (λ k. refl, λ k. refl, λ j f. refl)
+stale_alike l = (λ k. grind arith, λ k. grind arith, λ j f. grind arith)
 
 -- what a line says of the tree doesn't matter
 bare_alike : (l : Line) → Alike l (bare l)
-bare_alike Idle = (λ k. refl, λ k. refl, λ j f. refl)
-bare_alike (Wrote q x) = (λ k. refl, λ k. refl, λ j f. refl)
-bare_alike (Cleared q s) = (λ k. refl, λ k. refl, λ j f. refl)
-bare_alike (Stale q) = (λ k. refl, λ k. refl, λ j f. refl)
-bare_alike (Read q) = (λ k. refl, λ k. refl, λ j f. refl)
-bare_alike (Scanned q g) = (λ k. refl, λ k. refl, λ j f. refl)
-bare_alike Marked = (λ k. refl, λ k. refl, λ j f. refl)
+bare_alike l = (λ k. grind arith, λ k. grind arith, λ j f. grind arith)
 
 bare_bars : (w : Want) (ls : List Line) → some_bars w (map bare ls) ≡ some_bars w ls
 unfolding some_bars
@@ -57,14 +39,7 @@ backed_bars w zero (l ∷ ls) = ap₂ ◌||◌ (alike_bars w l (stale l) (stale_
 backed_bars w (suc n) (l ∷ ls) = ap (some_bars w) (back_on n l ls) ∙ ap (λ x. bars w l || x) (backed_bars w (cond (is_mark l) n (suc n)) ls)
 
 gone_bars : (w : Want) (o : Op) (ls : List Line) → some_bars w (gone_by o ls) ≡ some_bars w ls
-gone_bars w (Get k) ls = refl
-gone_bars w (Put k x) ls = refl
-gone_bars w (Drop k) ls = refl
-gone_bars w (Next k) ls = refl
-gone_bars w Mark ls = refl
-gone_bars w (Back j) ls = backed_bars w (suc j) ls
-gone_bars w Commit ls = refl
-gone_bars w Undo ls = refl
+gone_bars w o ls = grind (arith, backed_bars)
 
 -- IN THE WAY, one thing said after the other
 unfoldable said_bars : Want → List Said → Bool
@@ -81,101 +56,41 @@ lines_bars w ls (s ∷ ss) =
 
 -- the line of a Next writes nothing, and looks at what it has gone over
 scan_writes : (k j : ℕ) (a : Answer) → writes_key k (scan_line j a) ≡ false
-scan_writes k j Done = refl
-scan_writes k j Missing = refl
-scan_writes k j (Word x) = refl
-scan_writes k j (Pair l x) = refl
-scan_writes k j (Point i) = refl
-scan_writes k j (No i) = refl
-scan_writes k j Full = refl
-scan_writes k j Clash = refl
+scan_writes k j a = grind arith
 
 scan_looks : (k j : ℕ) (a : Answer) → looks_key k (scan_line j a) ≡ up_to k j a
 unfolding up_to
-scan_looks k j Done = refl
-scan_looks k j Missing = refl
-scan_looks k j (Word x) = refl
-scan_looks k j (Pair l x) = refl
-scan_looks k j (Point i) = refl
-scan_looks k j (No i) = refl
-scan_looks k j Full = refl
-scan_looks k j Clash = refl
+scan_looks k j a = grind arith
 
 scan_within : (k : ℕ) (f : Option ℕ) (j : ℕ) (a : Answer) → writes_within k f (scan_line j a) ≡ false
-scan_within k f j Done = refl
-scan_within k f j Missing = refl
-scan_within k f j (Word x) = refl
-scan_within k f j (Pair l x) = refl
-scan_within k f j (Point i) = refl
-scan_within k f j (No i) = refl
-scan_within k f j Full = refl
-scan_within k f j Clash = refl
+scan_within k f j a = grind arith
 
 one_writes : (k : ℕ) (o : Op) (a : Answer) → writes_key k (line_for o a) ≡ writes k o
 unfolding writes
-one_writes k (Get j) a = refl
-one_writes k (Put j x) a = refl
-one_writes k (Drop j) a = refl
-one_writes k (Next j) a = scan_writes k j a
-one_writes k Mark a = refl
-one_writes k (Back i) a = refl
-one_writes k Commit a = refl
-one_writes k Undo a = refl
-
--- a drop looks at the key that it writes
-or_self : (x : Bool) → (x || false) ≡ (x || x)
-or_self true = refl
-or_self false = refl
+one_writes k o a = grind (arith, scan_writes)
 
 one_touches : (k : ℕ) (o : Op) (a : Answer) → bars (Write k) (line_for o a) ≡ (writes k o || looked k o a)
 unfolding writes looked
-one_touches k (Get j) a = refl
-one_touches k (Put j x) a = refl
-one_touches k (Drop j) a = or_self (writes k (Drop j))
-one_touches k (Next j) a = ap₂ ◌||◌ (scan_writes k j a) (scan_looks k j a)
-one_touches k Mark a = refl
-one_touches k (Back i) a = refl
-one_touches k Commit a = refl
-one_touches k Undo a = refl
+one_touches k o a = grind (arith, scan_writes, scan_looks)
 
 -- a key within what a Next would find
 found_up : (k j : ℕ) (a : Answer) (f : Option ℕ) → Found a f → within k j f ≡ up_to k j a
 unfolding Found up_to
-found_up k j Done f h = absurd h
-found_up k j Missing f h = rw h
-found_up k j (Word x) f h = absurd h
-found_up k j (Pair l x) f h = rw h
-found_up k j (Point i) f h = absurd h
-found_up k j (No i) f h = absurd h
-found_up k j Full f h = absurd h
-found_up k j Clash f h = absurd h
+found_up k j a f h = grind arith
 
 one_within : (j : ℕ) (b : Answer) (f : Option ℕ) (o : Op) (a : Answer) → Found b f → writes_within j f (line_for o a) ≡ write_up_to j b o
 unfolding write_up_to
-one_within j b f (Get k) a h = refl
-one_within j b f (Put k x) a h = found_up k j b f h
-one_within j b f (Drop k) a h = found_up k j b f h
-one_within j b f (Next k) a h = scan_within j f k a
-one_within j b f Mark a h = refl
-one_within j b f (Back i) a h = refl
-one_within j b f Commit a h = refl
-one_within j b f Undo a h = refl
+one_within j b f o a h = grind (arith, scan_within, found_up)
 
 said_writes : (k : ℕ) (ss : List Said) → said_bars (Look k) ss ≡ some_writes k ss
 unfolding said_bars some_writes
 said_writes k [] = refl
-said_writes k (s ∷ ss) = ap₂ ◌||◌ (one_writes k s.op s.told) (said_writes k ss)
-
-or_mix : (x y u v : Bool) → ((x || y) || (u || v)) ≡ ((x || u) || (y || v))
-or_mix true y u v = refl
-or_mix false true true v = refl
-or_mix false true false v = refl
-or_mix false false u v = refl
+said_writes k (s ∷ ss) = grind (arith, one_writes k s.op s.told, said_writes k ss)
 
 said_touches : (k : ℕ) (ss : List Said) → said_bars (Write k) ss ≡ (some_writes k ss || some_looked k ss)
 unfolding said_bars some_writes some_looked
 said_touches k [] = refl
-said_touches k (s ∷ ss) = ap₂ ◌||◌ (one_touches k s.op s.told) (said_touches k ss) ∙ or_mix (writes k s.op) (looked k s.op s.told) (some_writes k ss) (some_looked k ss)
+said_touches k (s ∷ ss) = grind (arith, one_touches k s.op s.told, said_touches k ss)
 
 said_within : (j : ℕ) (b : Answer) (f : Option ℕ) (ss : List Said) → Found b f → said_bars (Scan j f) ss ≡ write_within j b ss
 unfolding said_bars write_within
@@ -189,14 +104,7 @@ said_nothing (s ∷ ss) = said_nothing ss
 
 said_bars_lem : (o : Op) (a : Answer) (f : Option ℕ) (ss : List Said) → Finds o a f → said_bars (want_of o f) ss ≡ barred o a ss
 unfolding barred Finds
-said_bars_lem (Get k) a f ss h = said_writes k ss
-said_bars_lem (Put k x) a f ss h = said_touches k ss
-said_bars_lem (Drop k) a f ss h = said_touches k ss
-said_bars_lem (Next k) a f ss h = said_within k a f ss h
-said_bars_lem Mark a f ss h = said_nothing ss
-said_bars_lem (Back j) a f ss h = said_nothing ss
-said_bars_lem Commit a f ss h = said_nothing ss
-said_bars_lem Undo a f ss h = said_nothing ss
+said_bars_lem o a f ss h = grind (arith, said_writes, said_touches, said_within, said_nothing)
 
 -- THE LINES SAY WHAT IS IN THE WAY
 pub lines_barred : (ls : List Line) (ss : List Said) (o : Op) (a : Answer) (f : Option ℕ) → map bare ls ≡ said_lines ss → Finds o a f → some_bars (want_of o f) ls ≡ barred o a ss

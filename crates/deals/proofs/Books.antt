@@ -1,5 +1,5 @@
 -- Books: what is found at a key, after a put and after a drop; the next key; two books in which the same is found.
-use Rattle.std.proofs.Common.{◌≡◌, ℕ, suc, ◌<◌, ◌≤◌, Bool, true, false, cond, ◌&&◌, T, eqb, ltb, leb, List, [], ◌∷◌, get_or, sym, refl, ap, ◌∙◌, ap₂, inl, inr, arith, le→leb, eqb→eq, ltb→lt, lt→ltb}
+use Rattle.std.proofs.Common.{◌≡◌, ℕ, suc, ◌<◌, ◌≤◌, Bool, cond, ◌&&◌, T, eqb, ltb, leb, List, [], ◌∷◌, get_or, sym, refl, ap, ◌∙◌, ap₂, inl, inr, arith, le→leb, eqb→eq, ltb→lt, lt→ltb}
 use lib.Dec.{eqb_refl}
 use Rattle.std.proofs.lemmas.Bool.{lt-ltb, le-ltb, eq-eqb, ne_eqb, cases_order, cases_lt}
 use Rattle.deals.specs.declared.Answer.{Answer}
@@ -13,12 +13,10 @@ up_less m n [] h u = tt
 up_less m n (p ∷ ps) h u = (omega (arith, u.0), u.1)
 
 pub and_t : (x y : Bool) → T (x && y) → T x × T y
-and_t true y t = (tt, t)
-and_t false y t = absurd t
+and_t x y t = grind arith
 
 pub t_and : (x y : Bool) → T x → T y → T (x && y)
-t_and true y s t = t
-t_and false y s t = s
+t_and x y s t = grind arith
 
 up_tail : (p : Two) (b : Book) → T (rising (p ∷ b)) → Up (suc p.key) b
 unfolding rising
@@ -89,88 +87,43 @@ find_low n k [] u h = find_none k
 find_low n k (p ∷ b) u h = find_before k p b (omega (arith, u.0))
 
 pub up_put : (n k x : ℕ) (b : Book) → Up n b → n ≤ k → Up n (put_in k x b)
-up_put n k x [] u h = rw put_none (h, tt)
-up_put n k x (p ∷ b) u h =
-    elim (cases_order p.key k) [
-      | inl e ↦ rw (put_here k x p b e) (h, rw e at u.1)
-      | inr (inl l) ↦ rw (put_past k x p b l) (u.0, up_put (suc p.key) k x b u.1 l)
-      | inr (inr g) ↦ rw (put_before k x p b g) (h, (g, u.1))
-    ]
+up_put n k x [] u h = grind (arith, put_none)
+up_put n k x (p ∷ b) u h = grind (arith, put_here, put_past, put_before, cases_order p.key k, up_put (suc p.key) k x b u.1)
 
 pub up_drop : (n k : ℕ) (b : Book) → Up n b → Up n (drop_in k b)
-up_drop n k [] u = rw drop_none tt
-up_drop n k (p ∷ b) u =
-    elim (cases_order p.key k) [
-      | inl e ↦ rw (drop_here k p b e) (up_less n (suc p.key) b (omega (arith, u.0)) u.1)
-      | inr (inl l) ↦ rw (drop_past k p b l) (u.0, up_drop (suc p.key) k b u.1)
-      | inr (inr g) ↦ rw (drop_before k p b g) u
-    ]
+up_drop n k [] u = grind (arith, drop_none)
+up_drop n k (p ∷ b) u = grind (arith, drop_here, drop_past, drop_before, cases_order p.key k, up_less n (suc p.key) b, up_drop (suc p.key) k b u.1)
 
 -- what is found after a put, and after a drop
 pub find_put_same : (k x : ℕ) (b : Book) → find k (put_in k x b) ≡ Word x
-find_put_same k x [] = rw put_none (find_here k (two k x) [] refl)
-find_put_same k x (p ∷ b) =
-    elim (cases_order p.key k) [
-      | inl e ↦ rw (put_here k x p b e) (find_here k (two k x) b refl)
-      | inr (inl l) ↦ rw (put_past k x p b l, find_past k p (put_in k x b) l) (find_put_same k x b)
-      | inr (inr g) ↦ rw (put_before k x p b g) (find_here k (two k x) (p ∷ b) refl)
-    ]
+find_put_same k x [] = grind (arith, put_none, find_here)
+find_put_same k x (p ∷ b) = grind (arith, cases_order p.key k, put_here, put_past, put_before, find_here, find_past, find_put_same k x b)
 
 -- a pair in front of which and behind which the same stands
 find_cons : (j : ℕ) (p : Two) (b c : Book) → find j b ≡ find j c → find j (p ∷ b) ≡ find j (p ∷ c)
-find_cons j p b c e =
-    elim (cases_order p.key j) [
-      | inl h ↦ find_here j p b h ∙ sym (find_here j p c h)
-      | inr (inl h) ↦ find_past j p b h ∙ e ∙ sym (find_past j p c h)
-      | inr (inr h) ↦ find_before j p b h ∙ sym (find_before j p c h)
-    ]
+find_cons j p b c e = grind (arith, cases_order p.key j, find_here, find_past, find_before)
 
 -- a pair that is passed over, or that is above
 find_skip : (n j : ℕ) (p : Two) (b : Book) → Up n b → p.key < n → (j ≡ p.key → ⊥) → find j (p ∷ b) ≡ find j b
-find_skip n j p b u h d =
-    elim (cases_order p.key j) [
-      | inl e ↦ absurd (d (sym e))
-      | inr (inl l) ↦ find_past j p b l
-      | inr (inr g) ↦ find_before j p b g ∙ sym (find_low n j b u (omega arith))
-    ]
+find_skip n j p b u h d = grind (arith, cases_order p.key j, find_past, find_before, find_low n j b u)
 
 pub find_put_other : (n j k x : ℕ) (b : Book) → Up n b → (j ≡ k → ⊥) → find j (put_in k x b) ≡ find j b
-find_put_other n j k x [] u d = rw put_none (find_skip (suc k) j (two k x) [] tt (omega arith) d)
-find_put_other n j k x (p ∷ b) u d =
-    elim (cases_order p.key k) [
-      | inl e ↦ rw (put_here k x p b e) (find_skip (suc p.key) j (two k x) b u.1 (omega arith) d ∙ sym (find_skip (suc p.key) j p b u.1 (omega arith) (λ i. d (i ∙ e))))
-      | inr (inl l) ↦ rw (put_past k x p b l) (find_cons j p (put_in k x b) b (find_put_other (suc p.key) j k x b u.1 d))
-      | inr (inr g) ↦ rw (put_before k x p b g) (find_skip (suc k) j (two k x) (p ∷ b) (g, u.1) (omega arith) d)
-    ]
+find_put_other n j k x [] u d = grind (arith, put_none, find_skip)
+find_put_other n j k x (p ∷ b) u d = grind (arith, cases_order p.key k, put_here, put_past, put_before, find_skip, find_cons j p (put_in k x b) b, find_put_other (suc p.key) j k x b u.1 d)
 
 pub find_drop_same : (n k : ℕ) (b : Book) → Up n b → find k (drop_in k b) ≡ Missing
-find_drop_same n k [] u = rw drop_none (find_none k)
-find_drop_same n k (p ∷ b) u =
-    elim (cases_order p.key k) [
-      | inl e ↦ rw (drop_here k p b e) (find_low (suc p.key) k b u.1 (omega arith))
-      | inr (inl l) ↦ rw (drop_past k p b l, find_past k p (drop_in k b) l) (find_drop_same (suc p.key) k b u.1)
-      | inr (inr g) ↦ rw (drop_before k p b g) (find_before k p b g)
-    ]
+find_drop_same n k [] u = grind (arith, drop_none, find_none)
+find_drop_same n k (p ∷ b) u = grind (arith, cases_order p.key k, drop_here, drop_past, drop_before, find_past, find_before, find_low (suc p.key) k b u.1, find_drop_same (suc p.key) k b u.1)
 
 pub find_drop_other : (n j k : ℕ) (b : Book) → Up n b → (j ≡ k → ⊥) → find j (drop_in k b) ≡ find j b
-find_drop_other n j k [] u d = rw drop_none
-find_drop_other n j k (p ∷ b) u d =
-    elim (cases_order p.key k) [
-      | inl e ↦ rw (drop_here k p b e) (sym (find_skip (suc p.key) j p b u.1 (omega arith) (λ i. d (i ∙ e))))
-      | inr (inl l) ↦ rw (drop_past k p b l) (find_cons j p (drop_in k b) b (find_drop_other (suc p.key) j k b u.1 d))
-      | inr (inr g) ↦ rw (drop_before k p b g)
-    ]
+find_drop_other n j k [] u d = grind (arith, drop_none)
+find_drop_other n j k (p ∷ b) u d = grind (arith, cases_order p.key k, drop_here, drop_past, drop_before, find_skip (suc p.key) j p b u.1, find_cons j p (drop_in k b) b, find_drop_other (suc p.key) j k b u.1 d)
 
 pub next_only : (f : ℕ → Answer) (k : ℕ) (a c : Answer) → IsNext f k a → IsNext f k c → a ≡ c
 next_only f k a c (none h) (none h') = refl
 next_only f k a c (none h) (some l x g e v) = cc (h l g, e)
 next_only f k a c (some l x g e v) (none h) = cc (h l g, e)
-next_only f k a c (some l x g e v) (some m y g' e' v') =
-    elim (cases_order l m) [
-      | inl i ↦ cc (i, e, e')
-      | inr (inl i) ↦ cc (e, v' l g i)
-      | inr (inr i) ↦ cc (e', v m g' i)
-    ]
+next_only f k a c (some l x g e v) (some m y g' e' v') = grind (arith, cases_order l m, v' l g, v m g', e, e')
 
 next_none : (k : ℕ) → next_in k [] ≡ Missing
 unfolding pair_of from
@@ -194,14 +147,7 @@ next_by f g k a e (some l x i h v) =
 
 above : (j k : ℕ) (a : Answer) → T (up_to j k a) → k < j
 unfolding up_to
-above j k Done t = absurd t
-above j k Missing t = ltb→lt k j t
-above j k (Word x) t = absurd t
-above j k (Pair l x) t = ltb→lt k j (and_t (ltb k j) (leb j l) t).0
-above j k (Point i) t = absurd t
-above j k (No i) t = absurd t
-above j k Full t = absurd t
-above j k Clash t = absurd t
+above j k a t = grind arith
 
 next_cons : (k : ℕ) (p : Two) (b : Book) (a : Answer) → p.key ≤ k → IsNext (λ j. find j b) k a → IsNext (λ j. find j (p ∷ b)) k a
 next_cons k p b a h = next_by (λ j. find j b) (λ j. find j (p ∷ b)) k a (λ j t. sym (find_past j p b (omega (arith, above j k a t))))
@@ -232,12 +178,7 @@ pub same_book : (n m : ℕ) (b c : Book) → Up n b → Up m c → ((k : ℕ) �
 same_book n m [] [] u v e = refl
 same_book n m [] (q ∷ c) u v e = cc (find_none q.key, e q.key, find_here q.key q c refl)
 same_book n m (p ∷ b) [] u v e = cc (find_none p.key, e p.key, find_here p.key p b refl)
-same_book n m (p ∷ b) (q ∷ c) u v e =
-    elim (cases_order p.key q.key) [
-      | inl i ↦ ap₂ ◌∷◌ (same_pair p q b c e i) (same_book (suc p.key) (suc q.key) b c u.1 v.1 (same_tail p q b c u.1 v.1 e i))
-      | inr (inl l) ↦ cc (e p.key, find_here p.key p b refl, find_before p.key q c l)
-      | inr (inr g) ↦ cc (e q.key, find_here q.key q c refl, find_before q.key p b g)
-    ]
+same_book n m (p ∷ b) (q ∷ c) u v e = grind (arith, cases_order p.key q.key, same_pair p q b c e, same_book (suc p.key) (suc q.key) b c u.1 v.1, same_tail p q b c u.1 v.1 e, e p.key, e q.key, find_here, find_before)
 
 -- ANSWERS that are alike are the same.
 decode : List ℕ → Answer
@@ -247,14 +188,7 @@ decode xs =
 
 decode_code : (a : Answer) → decode (code a) ≡ a
 unfolding decode code
-decode_code Done = refl
-decode_code Missing = refl
-decode_code (Word x) = refl
-decode_code (Pair k x) = refl
-decode_code (Point i) = refl
-decode_code (No i) = refl
-decode_code Full = refl
-decode_code Clash = refl
+decode_code a = grind arith
 
 alike_eq : (xs ys : List ℕ) → T (alike xs ys) → xs ≡ ys
 unfolding alike

@@ -8,11 +8,10 @@ use Rattle.lines.specs.Tables.{deal_ring, deal_lines}
 use Rattle.deals.specs.declared.Op.{Op}
 use Rattle.deals.specs.Deals.{State, Quiet}
 use Rattle.deals.specs.Rows.{lines_from, bare}
-use Rattle.deals.specs.Tables.{count_at, lines_in, waiting_in, order_of, rest_of, is_under, Off, Keeps}
+use Rattle.deals.specs.Tables.{count_at, lines_in, waiting_in, order_of, rest_of, is_under, Off, Sound, Keeps}
 use Rattle.deals.specs.LineUps.{LineUp, TablesHold}
 use Rattle.deals.proofs.Offs.{set_off, mid_off, mid_at, off_kept, kept_then, kept_part, kept_rest}
 use Rattle.deals.proofs.Ages.{line_quiet}
-use Rattle.deals.proofs.Rings.{none_below}
 
 -- y: the numbers of lines then
 module _ (r y : List ℕ) (wide : length r ≡ 262144) (long : length y ≡ 32) (zeros : (k : ℕ) → k < length y → get_or y k 0 ≡ 0) where
@@ -52,16 +51,24 @@ module _ (r y : List ℕ) (wide : length r ≡ 262144) (long : length y ≡ 32) 
   unfolding lines_in deal_lines lines_of lines_from
   keeps_none c h = record { count = count_none c h; lines = ap (λ m. map bare (lines_of (take 3072 (drop (3072 * c) last)) (deal_ring m))) (count_none c h) }
 
+  sound_last : Sound last
+  sound_last =
+      record {
+        wide = same_length ∙ wide;
+        short = λ e h. rw (count_none e h) (omega arith);
+        most = rw waiting_none (omega arith);
+        few = λ k h. absurd (omega (arith, waiting_none));
+      }
+
+  pub clear_sound : Sound (set (put_mid 259680 32 r y) 259744 0)
+  unfolding last then
+  clear_sound = sound_last
+
   pub clear_holds : (can : Op → Bool) (s : State) → ((c : ℕ) → (s.clerk c).deal ≡ []) → ((c : ℕ) → (s.clerk c).now' ≡ Quiet) → TablesHold can true (set (put_mid 259680 32 r y) 259744 0) s
   unfolding last then is_under
   clear_holds can s deals quiet =
       record {
-        sound = record {
-          wide = same_length ∙ wide;
-          short = λ e h. rw (count_none e h) (omega arith);
-          most = rw waiting_none (omega arith);
-          few = λ k h. absurd (none_below k (rw waiting_none at h));
-        };
+        sound = sound_last;
         desk = λ c h. subst (Keeps last c) (sym (deals c)) (keeps_none c h);
         asks = λ c h u. absurd (false≢true (sym (ap is_under (quiet c)) ∙ u));
         line = subst (LineUp can true s) (sym order_none) (line_quiet can s quiet);

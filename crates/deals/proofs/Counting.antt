@@ -13,10 +13,6 @@ use Rattle.deals.specs.Deals.{State, some', waits, blocked, ring, counts}
 use Rattle.deals.specs.LineUps.{Graph, Picked}
 use Rattle.deals.proofs.Rings.{spread, reached, ring_is}
 
-and_false : (x : Bool) → (x && false) ≡ false
-and_false true = refl
-and_false false = refl
-
 pub some_is : (n : ℕ) (f g : ℕ → Bool) → ((e : ℕ) → e < n → f e ≡ g e) → some_of n f ≡ some' n g
 unfolding some_of some'
 some_is zero f g h = refl
@@ -32,7 +28,7 @@ spread_by_lem (suc n) w v r e h =
 spread_past : (n : ℕ) (w : ℕ → ℕ → Bool) (r : ℕ → Bool) (e : ℕ) → ((d : ℕ) → d < n → w d e ≡ false) → spread_by n w r e ≡ r e
 unfolding spread_by
 spread_past zero w r e h = refl
-spread_past (suc n) w r e h = ap₂ ◌||◌ (spread_past n w r e (λ d l. h d (omega arith))) (ap (λ x. r n && x) (h n (omega arith)) ∙ and_false (r n)) ∙ or_none (r e)
+spread_past (suc n) w r e h = grind (arith, spread_past n w r e (λ d l. h d (omega arith)), h n (omega arith))
 
 Small : (ℕ → Bool) → Type 0
 Small r = (e : ℕ) → 32 ≤ e → r e ≡ false

@@ -1,13 +1,12 @@
 -- The lines of a deal have its writes that are in effect, and its marks.
 use Rattle.std.proofs.Common.{◌≡◌, ℕ, zero, suc, ◌<◌, ◌≤◌, true, false, cond, List, [], ◌∷◌, ◌++◌, map, length, get_or, take, sym, refl, ap, ◌∙◌, ap₂, inl, inr, arith}
 use Rattle.std.proofs.lemmas.List.{append-nil, append_assoc, take_all, length-map}
-use Rattle.std.proofs.lemmas.Bool.{cases_lt, cases_Bool, lt-ltb, le-ltb, false≢true}
+use Rattle.std.proofs.lemmas.Bool.{cases_lt, cases_Bool, lt-ltb, le-ltb}
 use Rattle.deals.specs.declared.Op.{Op}
 use Rattle.deals.specs.declared.Op.TheVariants.{Get, Put, Drop, Next, Mark, Back, Commit, Undo}
 use Rattle.deals.specs.declared.Answer.{Answer}
-use Rattle.deals.specs.declared.Answer.TheVariants.{Done, Missing, Word, Pair, Point, No, Full, Clash}
 use Rattle.lines.specs.declared.line.Line.{Line}
-use Rattle.lines.specs.declared.line.Line.TheVariants.{Idle, Wrote, Cleared, Stale, Read, Scanned, Marked}
+use Rattle.lines.specs.declared.line.Line.TheVariants.{Idle, Wrote, Read, Marked}
 use Rattle.lines.specs.Marks.{mark_of, marks_in, stale, backed}
 use Rattle.deals.specs.Deals.{Book, Said, leaves, marks_of}
 use Rattle.deals.specs.Rows.{scan_line, line_for, then_lines, lines_from, bare}
@@ -15,7 +14,6 @@ use Rattle.deals.specs.Tables.{lines_in, Keeps}
 use Rattle.deals.specs.Writes.{Write, onto, writes_then, marks_then, writes_of, writes_at, effect, write_in, writes_in}
 use Rattle.deals.proofs.Backs.{is_mark, back_on, bare_mark}
 use Rattle.deals.proofs.Writes.{leaves_is, marks_onto}
-use Rattle.deals.proofs.Rings.{none_below}
 
 -- the writes that were in effect at each mark, after the writes a
 unfoldable at_marks : List Write → List Line → List (List Write)
@@ -23,13 +21,7 @@ at_marks a [] = []
 at_marks a (l ∷ ls) = cond (is_mark l) (a ∷ at_marks a ls) (at_marks (a ++ write_in l) ls)
 
 mark_writes : (l : Line) → is_mark l ≡ true → write_in l ≡ []
-mark_writes Idle e = refl
-mark_writes (Wrote k x) e = absurd (false≢true e)
-mark_writes (Cleared k s) e = absurd (false≢true e)
-mark_writes (Stale k) e = refl
-mark_writes (Read k) e = refl
-mark_writes (Scanned k f) e = refl
-mark_writes Marked e = refl
+mark_writes l e = grind arith
 
 -- ONE MORE LINE
 writes_push : (ls : List Line) (l : Line) → writes_in (ls ++ l ∷ []) ≡ writes_in ls ++ write_in l
@@ -48,22 +40,10 @@ marks_push a (x ∷ ls) l =
 
 -- PAST THE LAST MARK THAT STAYS there is nothing in effect
 stale_writes : (l : Line) → write_in (stale l) ≡ []
-stale_writes Idle = refl
-stale_writes (Wrote k x) = refl
-stale_writes (Cleared k s) = refl
-stale_writes (Stale k) = refl
-stale_writes (Read k) = refl
-stale_writes (Scanned k f) = refl
-stale_writes Marked = refl
+stale_writes l = grind arith
 
 stale_mark : (l : Line) → is_mark (stale l) ≡ false
-stale_mark Idle = refl
-stale_mark (Wrote k x) = refl
-stale_mark (Cleared k s) = refl
-stale_mark (Stale k) = refl
-stale_mark (Read k) = refl
-stale_mark (Scanned k f) = refl
-stale_mark Marked = refl
+stale_mark l = grind arith
 
 past_writes : (ls : List Line) → writes_in (backed zero ls) ≡ []
 unfolding writes_in
@@ -78,7 +58,7 @@ past_marks a (l ∷ ls) = rw (stale_mark l) (past_marks (a ++ write_in (stale l)
 -- back to a mark that stands: the writes then, the marks up to it
 back_writes : (ls : List Line) (n : ℕ) (a : List Write) → n < length (at_marks a ls) → a ++ writes_in (backed (suc n) ls) ≡ get_or (at_marks a ls) n []
 unfolding writes_in at_marks
-back_writes [] n a h = absurd (none_below n h)
+back_writes [] n a h = absurd (omega arith)
 back_writes (l ∷ ls) zero a h =
     elim (cases_Bool (is_mark l)) [
       | inl t ↦ rw (back_on 0 l ls, t, mark_writes l t, past_writes ls) (append-nil a)
@@ -110,7 +90,7 @@ unfolding at_marks
 back_none [] n a h = refl
 back_none (l ∷ ls) zero a h =
     elim (cases_Bool (is_mark l)) [
-      | inl t ↦ let g : suc (length (at_marks a ls)) ≤ 0 = rw t at h in absurd (none_below (length (at_marks a ls)) (omega arith))
+      | inl t ↦ let g : suc (length (at_marks a ls)) ≤ 0 = rw t at h in absurd (omega arith)
       | inr t ↦ rw (back_on 0 l ls, t) (ap (λ y. l ∷ y) (back_none ls zero (a ++ write_in l) (rw t at h)))
     ]
 back_none (l ∷ ls) (suc n) a h =
@@ -121,14 +101,7 @@ back_none (l ∷ ls) (suc n) a h =
 
 -- ONE MORE IS TOLD: the lines' writes are as the deal's
 scan_plain : (k : ℕ) (x : Answer) → (write_in (scan_line k x) ≡ []) × (is_mark (scan_line k x) ≡ false)
-scan_plain k Done = (refl, refl)
-scan_plain k Missing = (refl, refl)
-scan_plain k (Word x) = (refl, refl)
-scan_plain k (Pair l x) = (refl, refl)
-scan_plain k (Point i) = (refl, refl)
-scan_plain k (No i) = (refl, refl)
-scan_plain k Full = (refl, refl)
-scan_plain k Clash = (refl, refl)
+scan_plain k x = grind arith
 
 plain_writes : (ls : List Line) (l : Line) → write_in l ≡ [] → writes_in (ls ++ l ∷ []) ≡ writes_in ls
 plain_writes ls l e = writes_push ls l ∙ ap (λ y. writes_in ls ++ y) e ∙ append-nil (writes_in ls)
@@ -179,13 +152,7 @@ from_marks ls (s ∷ ss) = from_marks (then_lines s ls) ss ∙ ap₂ (writes_at 
 
 -- what lines say of the tree doesn't matter
 bare_write : (l : Line) → write_in (bare l) ≡ write_in l
-bare_write Idle = refl
-bare_write (Wrote k x) = refl
-bare_write (Cleared k s) = refl
-bare_write (Stale k) = refl
-bare_write (Read k) = refl
-bare_write (Scanned k f) = refl
-bare_write Marked = refl
+bare_write l = grind arith
 
 bare_writes : (ls : List Line) → writes_in (map bare ls) ≡ writes_in ls
 unfolding writes_in
@@ -202,13 +169,7 @@ bare_marks a (l ∷ ls) =
     ]
 
 mark_is : (l : Line) → mark_of l ≡ cond (is_mark l) 1 0
-mark_is Idle = refl
-mark_is (Wrote k x) = refl
-mark_is (Cleared k s) = refl
-mark_is (Stale k) = refl
-mark_is (Read k) = refl
-mark_is (Scanned k f) = refl
-mark_is Marked = refl
+mark_is l = grind arith
 
 count_marks : (a : List Write) (ls : List Line) → length (at_marks a ls) ≡ marks_in ls
 unfolding at_marks

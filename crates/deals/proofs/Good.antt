@@ -1,18 +1,15 @@
 -- Runs in which nobody is told what another's deal is in the way of: in these every deal can always be made.
-use Rattle.std.proofs.Common.{◌≡◌, ℕ, zero, suc, ◌+◌, ◌*◌, ◌<◌, ◌≤◌, Bool, not, ◌&&◌, ◌||◌, T, eqb, ltb, List, [], ◌∷◌, ◌++◌, length, sym, refl, ◌∙◌, subst, inl, inr, arith, lt→ltb, T_not}
+use Rattle.std.proofs.Common.{◌≡◌, ℕ, zero, suc, ◌+◌, ◌*◌, ◌<◌, ◌≤◌, Bool, not, T, List, [], ◌∷◌, ◌++◌, length, sym, refl, ◌∙◌, subst, inl, inr, arith, T_not}
 use lib.Dec.{not_T}
 use Rattle.std.proofs.lemmas.Bool.{ne_eqb, cases_eq, cases_lt}
 use Rattle.deals.specs.declared.Op.{Op}
 use Rattle.deals.specs.declared.Op.TheVariants.{Commit, Undo}
 use Rattle.deals.specs.declared.Answer.{Answer}
 use Rattle.deals.specs.declared.Answer.TheVariants.{Done, No, Full, Clash}
-use Rattle.deals.specs.Deals.{Book, Said, Event, Asked, Told, Turned, Cut, Now, Quiet, Under, Over, State, set_clerk, aged, fresh, Run, begin, asks, answers, commits, undoes, full, too_long, not_built, clashes, tells, turns, cuts, leaves, told, barred, longest, ends, is_put, comes_to, waits_for, waits, some', every, blocked, ring, may_be_full, young, older}
+use Rattle.deals.specs.Deals.{Book, Said, Event, Asked, Told, Turned, Cut, Now, Quiet, Under, Over, State, set_clerk, aged, fresh, Run, begin, asks, answers, commits, undoes, full, too_long, not_built, clashes, tells, turns, cuts, leaves, told, barred, longest, ends, is_put, waits_for, waits, some', every, blocked, ring, may_be_full, young, older}
 use Rattle.deals.proofs.Books.{Up, and_t, t_and}
 use Rattle.deals.proofs.Writes.{or_left, or_right}
 use Rattle.deals.proofs.Apart.{Apart, agrees_none, agrees_push, nothing_bars, apart_told, apart_made, apart_undone, apart_stays, apart_aged, barred_none}
-
-absurd_lt : (i : ℕ) → i < 0 → ⊥
-absurd_lt i h = omega arith
 
 is_quiet : Now → Type 0
 is_quiet Quiet = Unit {0}
@@ -30,7 +27,7 @@ quiet≢over o a g e = subst is_quiet e tt
 -- some below n, and every below n
 pub some_at : (n : ℕ) (f : ℕ → Bool) (i : ℕ) → i < n → T (f i) → T (some' n f)
 unfolding some'
-some_at zero f i h t = absurd (absurd_lt i h)
+some_at zero f i h t = absurd (omega arith)
 some_at (suc n) f i h t =
     elim (cases_eq i n) [
       | inl e ↦ or_right (some' n f) (f n) (rw e at t)
@@ -44,7 +41,7 @@ every_all (suc n) f h = t_and (every n f) (f n) (every_all n f (λ i l. h i (ome
 
 pub every_at : (n : ℕ) (f : ℕ → Bool) (i : ℕ) → i < n → T (every n f) → T (f i)
 unfolding every
-every_at zero f i h t = absurd (absurd_lt i h)
+every_at zero f i h t = absurd (omega arith)
 every_at (suc n) f i h t =
     elim (cases_eq i n) [
       | inl e ↦ rw e (and_t (every n f) (f n) t).1
@@ -84,12 +81,7 @@ module _ (can : Op → Bool) (pages : ℕ) (c : ℕ) (many : 32 ≤ c) where
 -- who would be barred waits
 wait_here : (can : Op → Bool) (s : State) (c e : ℕ) (o : Op) (g : ℕ) → (s.clerk c).now' ≡ Under o g → T (can o) → length (s.clerk c).deal < longest → (e ≡ c → ⊥) → T (barred o (told o (s.clerk c).deal s.book) (s.clerk e).deal) → T (waits can s c e)
 unfolding waits_for
-wait_here can s c e o g q m l d t =
-    rw q
-    (t_and (not (eqb c e) && comes_to can o (s.clerk c).deal) (barred o (told o (s.clerk c).deal s.book) (s.clerk e).deal)
-    (t_and (not (eqb c e)) (comes_to can o (s.clerk c).deal) (rw (ne_eqb c e (λ i. d (sym i))) tt)
-    (t_and (can o) (ends o || ltb (length (s.clerk c).deal) longest) m (or_right (ends o) (ltb (length (s.clerk c).deal) longest) (lt→ltb (length (s.clerk c).deal) longest l))))
-    t)
+wait_here can s c e o g q m l d t = grind (arith, t_and, ne_eqb, or_right)
 
 -- who waits for nobody is barred by nobody
 pub free : (can : Op → Bool) (pages : ℕ) (es : List Event) (s : State) (c : ℕ) (o : Op) (g : ℕ) → Run can pages es s → (s.clerk c).now' ≡ Under o g → T (can o) → length (s.clerk c).deal < longest → T (not (blocked can s c))

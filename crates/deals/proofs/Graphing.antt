@@ -1,5 +1,5 @@
 -- The wait graph, as those in the order are put into it one after the other.
-use Rattle.std.proofs.Common.{◌≡◌, ℕ, ◌+◌, ◌<◌, Bool, true, false, not, ◌&&◌, ltb, List, length, get_or, take, drop, Some, None, Option, sym, refl, ap, ◌∙◌, subst, inl, inr, arith}
+use Rattle.std.proofs.Common.{◌≡◌, ℕ, ◌+◌, ◌<◌, Bool, true, false, not, ◌&&◌, ltb, List, length, get_or, take, drop, Some, None, Option, sym, ap, ◌∙◌, subst, inl, inr, arith}
 use Rattle.std.proofs.lemmas.List.{take-take}
 use Rattle.std.proofs.lemmas.Bool.{cases_eq, cases_Bool, lt-ltb, and_right, false≢true, not-true, not-false}
 use Rattle.locks.specs.declared.graph.WaitGraph.{WaitGraph}
@@ -7,22 +7,19 @@ use Rattle.locks.specs.declared.set.ClerkSet.{ClerkSet}
 use Rattle.locks.specs.Sets.{is_in, some_of}
 use Rattle.locks.specs.Graphs.{waits_in}
 use Rattle.deals.specs.declared.Op.{Op}
-use Rattle.deals.specs.Deals.{State, Now, Quiet, Under, Over, waits, waits_for, blocked}
+use Rattle.deals.specs.Deals.{State, Now, waits, waits_for, blocked}
 use Rattle.deals.specs.Tables.{is_under, Sound, Desk, Asks, waiting_in, order_of}
 use Rattle.deals.specs.LineUps.{LineUp, TablesHold, FindsFor, Graph, GraphTo, Quick}
 use Rattle.deals.proofs.Counting.{some_is}
 use Rattle.deals.proofs.Orders.{order_long}
-use Rattle.deals.proofs.Rings.{none_below}
 
 -- who isn't under way waits for nobody
 waits_idle : (can : Op → Bool) (s : State) (c e : ℕ) (n : Now) → is_under n ≡ false → waits_for can s c e n ≡ false
 unfolding waits_for is_under
-waits_idle can s c e Quiet h = refl
-waits_idle can s c e (Under o g) h = absurd (false≢true (sym h))
-waits_idle can s c e (Over o a g) h = refl
+waits_idle can s c e n h = grind arith
 
 pub graph_none : (can : Op → Bool) (g : WaitGraph) (s : State) (q : List ℕ) → ((d e : ℕ) → waits_in g d e ≡ false) → GraphTo can g s q 0
-graph_none can g s q h = record { done = λ k l. absurd (none_below k l); left = λ d l e. h d e }
+graph_none can g s q h = record { done = λ k l. absurd (omega arith); left = λ d l e. h d e }
 
 pub graph_more : (can : Op → Bool) (g h : WaitGraph) (s : State) (q : List ℕ) (i c : ℕ) → get_or q i 0 ≡ c
     → ((e : ℕ) → waits_in h c e ≡ (ltb e 32 && waits can s c e)) → ((d e : ℕ) → (d ≡ c → ⊥) → waits_in h d e ≡ waits_in g d e) → GraphTo can g s q i → GraphTo can h s q (i + 1)
@@ -47,13 +44,7 @@ graph_more can g h s q i c there new old m = record { done = did; left = rest }
 
 -- all who are under way are in the order
 pub graph_all : (can : Op → Bool) (g : WaitGraph) (s : State) (q : List ℕ) (more : Bool) → LineUp can more s q → GraphTo can g s q (length q) → Graph can g s
-graph_all can g s q more i m d l e =
-    elim (cases_Bool (is_under (s.clerk d).now')) [
-      | inl u ↦ let w = i.all d l u in rw (sym w.2) (m.done w.0 w.1 e)
-      | inr u ↦
-          m.left d (λ k h y. false≢true (sym u ∙ sym (ap (λ x. is_under (s.clerk x).now') y) ∙ i.under k h)) e
-          ∙ sym (and_right (ltb e 32) (waits can s d e) (waits_idle can s d e (s.clerk d).now' u))
-    ]
+graph_all can g s q more i m d l e = grind (arith, cases_Bool, false≢true, and_right, waits_idle)
 
 -- the order, as a part of the room
 pub order_part : (room : List ℕ) (n k : ℕ) → Sound room → n ≡ waiting_in room → k ≡ n → take k (drop 259712 room) ≡ order_of room
@@ -67,11 +58,7 @@ free_is can s c t h = some_is 32 (is_in t) (waits can s c) (λ e l. h e ∙ ap (
 pub quick_free : (can : Op → Bool) (s : State) (q : List ℕ) (c : ℕ) (t : ClerkSet) → 0 < length q → get_or q 0 0 ≡ c → c < 32 → ((e : ℕ) → is_in t e ≡ (ltb e 32 && waits can s c e)) → not (some_of 32 (is_in t)) ≡ true
     → Quick can s q (Some (record { place = 0; who = c; clash = false }))
 unfolding Quick
-quick_free can s q c t h there few is e =
-    let free : blocked can s c ≡ false = sym (free_is can s c t is) ∙ not-true (some_of 32 (is_in t)) e in (
-      refl,
-      record { among = h; there = there; few = few; gets = rw free; free = λ x. free; ringed = λ x. absurd (false≢true x); before = λ k l. absurd (none_below k l) },
-    )
+quick_free can s q c t h there few is e = grind (arith, free_is, not-true, false≢true)
 
 pub quick_held : (can : Op → Bool) (s : State) (q : List ℕ) (c : ℕ) (t : ClerkSet) → get_or q 0 0 ≡ c → ((e : ℕ) → is_in t e ≡ (ltb e 32 && waits can s c e)) → not (some_of 32 (is_in t)) ≡ false → Quick can s q None
 unfolding Quick

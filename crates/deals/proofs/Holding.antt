@@ -1,16 +1,16 @@
 -- All of the clerks' tables, as one asks, is served and is told, and as turns go.
-use Rattle.std.proofs.Common.{◌≡◌, ℕ, ◌+◌, ◌*◌, ◌<◌, ◌≤◌, Bool, true, false, cond, List, [], ◌∷◌, ◌++◌, None, sym, refl, ap, ◌∙◌, subst, inl, inr, arith}
+use Rattle.std.proofs.Common.{◌≡◌, ℕ, ◌+◌, ◌*◌, ◌<◌, ◌≤◌, Bool, true, false, List, [], ◌∷◌, ◌++◌, None, sym, refl, ap, ◌∙◌, subst, inl, inr, arith}
 use Rattle.std.specs.List.{remove}
 use Rattle.std.proofs.lemmas.Bool.{cases_lt, cases_eq, eq-eqb, ne_eqb, false≢true}
 use Rattle.locks.specs.declared.graph.Pick.{Pick}
 use Rattle.deals.specs.declared.Op.{Op}
 use Rattle.deals.specs.declared.Answer.{Answer}
-use Rattle.deals.specs.Deals.{Book, Said, State, Now, Quiet, Under, Over, set_clerk, aged, older, counts}
+use Rattle.deals.specs.Deals.{Book, Said, State, Now, Quiet, Under, Over, set_clerk, aged, older}
 use Rattle.deals.specs.Tables.{count_at, op_at, waiting_in, order_of, is_under, Off, Sound, Desk, Asks, OnlyDeals, OnlyOrder, OnlyAsk}
 use Rattle.deals.specs.LineUps.{LineUp, TablesHold, Served, Picked}
 use Rattle.deals.proofs.Offs.{off_kept, kept_op, kept_lines, kept_order, kept_rest}
 use Rattle.deals.proofs.Desks.{keeps_same, desk_like}
-use Rattle.deals.proofs.Orders.{order_long}
+use Rattle.deals.proofs.Orders.{order_long, last_few}
 use Rattle.deals.proofs.Ages.{set_same, set_other, under_older, line_room, line_asks, line_served, line_none, line_turns, line_tells, line_young}
 
 -- three words of what is asked are written
@@ -41,49 +41,35 @@ asks_like : (r t : List ℕ) (s : State) → ((c : ℕ) → c < 32 → op_at t c
 asks_like r t s h i c l u = let g = i c l u in (g.0, g.1 ∙ ap (λ o. Under o g.0) (sym (h c l)))
 
 asks_asked : (r t : List ℕ) (s : State) (c : ℕ) (d : List Said) (o : Op) → op_at t c ≡ o → ((e : ℕ) → e < 32 → (e ≡ c → ⊥) → op_at t e ≡ op_at r e) → Asks r s → Asks t (set_clerk c d (Under o 0) s)
-asks_asked r t s c d o new old i e l u =
-    elim (cases_eq e c) [
-      | inl q ↦ (0, set_same s s.book c e d (Under o 0) q ∙ ap (λ x. Under x 0) (sym (ap (op_at t) q ∙ new)))
-      | inr h ↦
-          let f : ((set_clerk c d (Under o 0) s).clerk e).now' ≡ (s.clerk e).now' = set_other s s.book c e d (Under o 0) h in
-          let g = i e l (sym (ap is_under f) ∙ u) in
-          (g.0, f ∙ g.1 ∙ ap (λ x. Under x g.0) (sym (old e l h)))
-    ]
+asks_asked r t s c d o new old i e l u = grind (arith, cases_eq, set_same, set_other)
 
 -- c is no more under way
 asks_set : (room : List ℕ) (s : State) (b : Book) (c : ℕ) (d : List Said) (n : Now) → is_under n ≡ false → Asks room s → Asks room (set_clerk c d n (record { book = b; clerk = s.clerk }))
-asks_set room s b c d n z i e l u =
-    elim (cases_eq e c) [
-      | inl q ↦ absurd (false≢true (sym z ∙ sym (ap is_under (set_same s b c e d n q)) ∙ u))
-      | inr h ↦
-          let f : ((set_clerk c d n (record { book = b; clerk = s.clerk })).clerk e).now' ≡ (s.clerk e).now' = set_other s b c e d n h in
-          let g = i e l (sym (ap is_under f) ∙ u) in
-          (g.0, f ∙ g.1)
-    ]
+asks_set room s b c d n z i e l u = grind (arith, cases_eq, false≢true, set_same, set_other)
 
 asks_aged : (can : Op → Bool) (room : List ℕ) (s : State) → Asks room s → Asks room (aged can s)
 unfolding older
-asks_aged can room s i e l u =
-    let g = i e l (sym (under_older (counts can s e) (s.clerk e).now') ∙ u) in
-    (cond (counts can s e) (g.0 + 1) g.0, ap (older (counts can s e)) g.1)
+asks_aged can room s i e l u = grind (arith, under_older)
 
 -- ONE ASKS, who has nothing under way
 pub same_deal : (s : State) (c : ℕ) (n : Now) (e : ℕ) → (s.clerk e).deal ≡ ((set_clerk c (s.clerk c).deal n s).clerk e).deal
 same_deal s c n e = elim (cases_eq e c) [ inl q ↦ rw (eq-eqb e c q, q) | inr h ↦ rw (ne_eqb e c h) ]
 
-module _ (can : Op → Bool) (room : List ℕ) (s : State) (c : ℕ) (i : TablesHold can true room s) (l : c < 32) (z : (s.clerk c).now' ≡ Quiet) where
-  -- there is room for one more
-  pub holds_room : waiting_in room < 32
-  holds_room = omega (arith, order_long room i.sound, line_room can s (order_of room) c (op_at room c) i.line l z)
+-- there is room for one more
+pub holds_room : (can : Op → Bool) (room : List ℕ) (s : State) (c : ℕ) → TablesHold can true room s → c < 32 → (s.clerk c).now' ≡ Quiet → waiting_in room < 32
+holds_room can room s c i l z = omega (arith, order_long room i.sound, line_room can s (order_of room) c (op_at room c) i.line l z)
 
-  pub holds_asks : (mid then : List ℕ) (o : Op) → op_at mid c ≡ o → OnlyAsk c room mid → order_of then ≡ order_of mid ++ c ∷ [] → OnlyOrder mid then → TablesHold can true then (set_clerk c (s.clerk c).deal (Under o 0) s)
-  holds_asks mid then o is asked order stood =
-      record {
-        sound = stood.sound;
-        desk = desk_like then s (set_clerk c (s.clerk c).deal (Under o 0) s) (same_deal s c (Under o 0)) (stood.deals s (asked.deals s i.desk));
-        asks = asks_like mid then (set_clerk c (s.clerk c).deal (Under o 0) s) stood.ops (asks_asked room mid s c (s.clerk c).deal o is asked.ops i.asks);
-        line = subst (LineUp can true (set_clerk c (s.clerk c).deal (Under o 0) s)) (sym (order ∙ ap (λ q. q ++ c ∷ []) asked.order)) (line_asks can s (order_of room) c o i.line l z);
-      }
+pub holds_asks : (can : Op → Bool) (room : List ℕ) (s : State) (c : ℕ) → TablesHold can true room s → (s.clerk c).now' ≡ Quiet
+    → (mid then : List ℕ) (o : Op) → op_at mid c ≡ o → OnlyAsk c room mid → order_of then ≡ order_of mid ++ c ∷ [] → OnlyOrder mid then → TablesHold can true then (set_clerk c (s.clerk c).deal (Under o 0) s)
+holds_asks can room s c i z mid then o is asked order stood =
+    record {
+      sound = stood.sound;
+      desk = desk_like then s (set_clerk c (s.clerk c).deal (Under o 0) s) (same_deal s c (Under o 0)) (stood.deals s (asked.deals s i.desk));
+      asks = asks_like mid then (set_clerk c (s.clerk c).deal (Under o 0) s) stood.ops (asks_asked room mid s c (s.clerk c).deal o is asked.ops i.asks);
+      line =
+          subst (LineUp can true (set_clerk c (s.clerk c).deal (Under o 0) s)) (sym (order ∙ ap (λ q. q ++ c ∷ []) asked.order))
+          (line_asks can s (order_of room) c o i.line (last_few then (order_of mid) c stood.sound order) z);
+    }
 
 -- ONE IS SERVED; b, d: the book and its deal then
 over_idle : (o : Op) (a : Answer) (g : ℕ) → is_under (Over o a g) ≡ false

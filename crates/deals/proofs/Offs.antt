@@ -1,39 +1,17 @@
 -- What a change of some words of the room leaves as it was.
 use Rattle.std.proofs.Common.{◌≡◌, ℕ, ◌+◌, ◌-◌, ◌*◌, ◌<◌, ◌≤◌, min, ◌⊎◌, List, length, get_or, take, drop, set, sym, refl, ap, ◌∙◌, ap₂, inl, inr, arith, rules}
 use borrow.Rule.Slice.PartMut.{put_mid}
-use Rattle.std.proofs.lemmas.List.{places, get_or-set_same, get_or-set_other, length-set, ext_get_or, get_or-take, get_or-drop, length-take, length-drop}
+use Rattle.std.proofs.lemmas.List.{places, get_or-set_other, length-set, ext_get_or, get_or-take, get_or-drop, length-take, length-drop}
 use Rattle.std.proofs.lemmas.Slice.{between-put_mid}
 use Rattle.lines.specs.Rings.{lines_of}
 use Rattle.lines.specs.Tables.{deal_ring, deal_lines}
-use Rattle.deals.specs.Tables.{count_at, lines_in, words_op, op_at, waiting_in, order_of, rest_of, Off, Sound, OnlyDeals}
-
--- three words are written
-abbrev put3 : List ℕ → ℕ → ℕ → ℕ → ℕ → List ℕ
-put3 w p t a b = set (set (set w p t) (p + 1) a) (p + 2) b
+use Rattle.deals.specs.Tables.{count_at, lines_in, words_op, op_of, op_at, waiting_in, order_of, rest_of, Off, Sound, OnlyDeals}
 
 same3 : {t a b u c d : ℕ} → t ≡ u → a ≡ c → b ≡ d → words_op t a b ≡ words_op u c d
 same3 {t} {a} {b} {u} {c} {d} p q r = ap (λ x. words_op x a b) p ∙ ap (λ x. words_op u x b) q ∙ ap (λ x. words_op u c x) r
 
-words_written : (w : List ℕ) (p t a b : ℕ) → p + 3 ≤ length w → words_op (get_or (put3 w p t a b) p 0) (get_or (put3 w p t a b) (p + 1) 0) (get_or (put3 w p t a b) (p + 2) 0) ≡ words_op t a b
-words_written w p t a b fits =
-    let x : get_or (put3 w p t a b) p 0 ≡ t = search (rules, places, get_or-set_same) in
-    let y : get_or (put3 w p t a b) (p + 1) 0 ≡ a = search (rules, places, get_or-set_same) in
-    let z : get_or (put3 w p t a b) (p + 2) 0 ≡ b = search (rules, places, get_or-set_same) in
-    same3 x y z
-
-pub op_written : (w : List ℕ) (c t a b : ℕ) → 259584 + 3 * c + 3 ≤ length w → op_at (put3 w (259584 + 3 * c) t a b) c ≡ words_op t a b
-unfolding op_at
-op_written w c t a b fits = words_written w (259584 + 3 * c) t a b fits
-
 pub set_off : (w : List ℕ) (p x : ℕ) → Off p 1 w (set w p x)
 set_off w p x = record { long = length-set w p x; same = λ i h. get_or-set_other w p i x 0 (λ e. elim h [ inl l ↦ omega arith | inr l ↦ omega arith ]) }
-
-pub put3_off : (w : List ℕ) (p t a b : ℕ) → Off p 3 w (put3 w p t a b)
-put3_off w p t a b =
-    record {
-      long = length-set _ (p + 2) b ∙ length-set _ (p + 1) a ∙ length-set w p t;
-      same = λ i h. get_or-set_other _ (p + 2) i b 0 (λ e. elim h [ inl l ↦ omega arith | inr l ↦ omega arith ]) ∙ get_or-set_other _ (p + 1) i a 0 (λ e. elim h [ inl l ↦ omega arith | inr l ↦ omega arith ]) ∙ get_or-set_other w p i t 0 (λ e. elim h [ inl l ↦ omega arith | inr l ↦ omega arith ]);
-    }
 
 -- a part of the room is written
 pub mid_long : (a k : ℕ) (r y : List ℕ) → a + k ≤ length r → length y ≡ k → length (put_mid a k r y) ≡ length r
@@ -44,6 +22,19 @@ mid_off a k r y h e = record { long = mid_long a k r y h e; same = λ i g. elim 
 
 pub mid_at : (a k m : ℕ) (r y : List ℕ) → a + k ≤ length r → length y ≡ k → m ≡ k → take m (drop a (put_mid a k r y)) ≡ y
 mid_at a k m r y h e q = rw q (ap (λ j. take j (drop a (put_mid a k r y))) (let z : k ≡ a + k - a = omega arith in z) ∙ between-put_mid a k r y (a + k) (omega arith) (omega arith))
+
+-- within more words
+pub off_wider : (a n b m : ℕ) (r t : List ℕ) → Off a n r t → b ≤ a → a + n ≤ b + m → Off b m r t
+off_wider a n b m r t f h g = record { long = f.long; same = λ i l. f.same i (elim l [ inl x ↦ inl (omega arith) | inr x ↦ inr (omega arith) ]) }
+
+-- the three words of what is asked are written
+pub op_put : (w y : List ℕ) (c k : ℕ) → 259584 + 3 * c + 3 ≤ length w → length y ≡ k → k ≡ 3 → op_at (put_mid (259584 + 3 * c) k w y) c ≡ op_of y
+unfolding op_at
+op_put w y c k fits long three =
+    let p : ℕ = 259584 + 3 * c in
+    let t : List ℕ = put_mid (259584 + 3 * c) k w y in
+    let word : (q j : ℕ) → q ≡ p + j → j < 3 → get_or t q 0 ≡ get_or y j 0 = λ q j e h. grind (arith, places) in
+    same3 (word p 0 (omega arith) (omega arith)) (word (p + 1) 1 refl (omega arith)) (word (p + 2) 2 refl (omega arith))
 
 -- WORDS THAT ARE AS THEY WERE: k of them, from p on
 abbrev pub Kept : ℕ → ℕ → List ℕ → List ℕ → Type 0

@@ -1,16 +1,15 @@
 -- What a deal was told is told again on any book in which the same is found wherever it looked.
-use Rattle.std.proofs.Common.{◌≡◌, ℕ, Bool, true, false, cond, not, ◌||◌, T, ltb, List, [], ◌∷◌, map, length, sym, refl, ap, ◌∙◌, inl, inr, eqb→eq, T_not}
+use Rattle.std.proofs.Common.{◌≡◌, ℕ, Bool, true, false, cond, not, ◌||◌, T, ltb, List, [], ◌∷◌, map, length, sym, ap, ◌∙◌, eqb→eq, T_not, arith}
 use lib.Dec.{eqb_refl}
 use Rattle.std.proofs.lemmas.List.{length-map}
-use Rattle.std.proofs.lemmas.Bool.{cases_Bool}
 use Rattle.deals.specs.declared.Op.{Op}
 use Rattle.deals.specs.declared.Op.TheVariants.{Get, Put, Drop, Next, Mark, Back, Commit, Undo}
 use Rattle.deals.specs.declared.Answer.{Answer}
 use Rattle.deals.specs.declared.Answer.TheVariants.{Done, Point, No}
-use Rattle.deals.specs.Deals.{Book, Said, step, agrees, leaves, same, writes, looked, up_to, some_writes, some_looked, write_up_to, write_within, barred}
+use Rattle.deals.specs.Deals.{Book, Said, step, agrees, leaves, same, writes, looked, up_to, some_writes, write_up_to, write_within, barred}
 use Rattle.deals.specs.Promise.{bars_none, KeepsOthers}
 use Rattle.deals.proofs.Books.{Up, rising_up, find, IsNext, next_by, next_is, next_only, and_t, t_and, same_eq, same_refl}
-use Rattle.deals.proofs.Writes.{Write, onto, found, up_onto, find_onto, writes_then, marks_then, step_book, step_marks, up_leaves, leaves_other, or_left, or_right}
+use Rattle.deals.proofs.Writes.{Write, onto, found, up_onto, find_onto, writes_then, marks_then, step_book, step_marks, up_leaves, leaves_other, or_left}
 
 -- what is told, by what is found at each key and how many marks there are
 abbrev pub Tells : Op → (ℕ → Answer) → ℕ → Answer → Type 0
@@ -25,24 +24,10 @@ Tells Undo f m a = Done ≡ a
 
 pub tells_is : (o : Op) (b : Book) (ms : List Book) → Up 0 b → Tells o (λ j. find j b) (length ms) (step o b ms).answer
 unfolding step
-tells_is (Get k) b ms u = refl
-tells_is (Put k x) b ms u = refl
-tells_is (Drop k) b ms u = refl
-tells_is (Next k) b ms u = next_is 0 k b u
-tells_is Mark b ms u = refl
-tells_is (Back j) b ms u = elim (cases_Bool (ltb j (length ms))) [ inl e ↦ rw e | inr e ↦ rw e ]
-tells_is Commit b ms u = refl
-tells_is Undo b ms u = refl
+tells_is o b ms u = grind (arith, next_is)
 
 pub tells_only : (o : Op) (f : ℕ → Answer) (m : ℕ) (a c : Answer) → Tells o f m a → Tells o f m c → a ≡ c
-tells_only (Get k) f m a c h g = sym h ∙ g
-tells_only (Put k x) f m a c h g = sym h ∙ g
-tells_only (Drop k) f m a c h g = sym h ∙ g
-tells_only (Next k) f m a c h g = next_only f k a c h g
-tells_only Mark f m a c h g = sym h ∙ g
-tells_only (Back j) f m a c h g = sym h ∙ g
-tells_only Commit f m a c h g = sym h ∙ g
-tells_only Undo f m a c h g = sym h ∙ g
+tells_only o f m a c h g = grind (arith, next_only)
 
 -- the same is found wherever was looked
 pub tells_by : (o : Op) (f g : ℕ → Answer) (m : ℕ) (a : Answer) → ((j : ℕ) → T (looked j o a) → f j ≡ g j) → Tells o f m a → Tells o g m a
@@ -59,14 +44,7 @@ tells_by Undo f g m a e h = h
 -- who isn't barred finds nothing written wherever it looks
 within_one : (j k : ℕ) (a : Answer) (o : Op) → T (up_to j k a) → T (writes j o) → T (write_up_to k a o)
 unfolding writes write_up_to
-within_one j k a (Get i) t w = w
-within_one j k a (Put i x) t w = rw (eqb→eq j i w) at t
-within_one j k a (Drop i) t w = rw (eqb→eq j i w) at t
-within_one j k a (Next i) t w = w
-within_one j k a Mark t w = w
-within_one j k a (Back i) t w = w
-within_one j k a Commit t w = w
-within_one j k a Undo t w = w
+within_one j k a o t w = grind (arith, eqb→eq)
 
 pub or_either : (x y : Bool) (A : Type 0) → T (x || y) → (T x → A) → (T y → A) → A
 or_either true y A t f g = f tt
@@ -75,21 +53,11 @@ or_either false y A t f g = g t
 within_some : (j k : ℕ) (a : Answer) (ss : List Said) → T (up_to j k a) → T (some_writes j ss) → T (write_within k a ss)
 unfolding some_writes write_within
 within_some j k a [] t w = w
-within_some j k a (s ∷ ss) t w =
-    or_either (writes j s.op) (some_writes j ss) (T (write_up_to k a s.op || write_within k a ss)) w
-    (λ v. or_left (write_up_to k a s.op) (write_within k a ss) (within_one j k a s.op t v))
-    (λ v. or_right (write_up_to k a s.op) (write_within k a ss) (within_some j k a ss t v))
+within_some j k a (s ∷ ss) t w = grind (arith, within_one j k a s.op t, within_some j k a ss t)
 
 pub barred_looked : (j : ℕ) (o : Op) (a : Answer) (ss : List Said) → T (looked j o a) → T (some_writes j ss) → T (barred o a ss)
 unfolding looked barred
-barred_looked j (Get k) a ss t w = rw (eqb→eq j k t) at w
-barred_looked j (Put k x) a ss t w = absurd t
-barred_looked j (Drop k) a ss t w = or_left (some_writes k ss) (some_looked k ss) (rw (eqb→eq j k t) at w)
-barred_looked j (Next k) a ss t w = within_some j k a ss t w
-barred_looked j Mark a ss t w = absurd t
-barred_looked j (Back i) a ss t w = absurd t
-barred_looked j Commit a ss t w = absurd t
-barred_looked j Undo a ss t w = absurd t
+barred_looked j o a ss t w = grind (arith, within_some, or_left, eqb→eq)
 
 -- on two books in which the same is found but where mine writes
 module _ (b c : Book) (mine : List Said) (up : Up 0 b) (vp : Up 0 c) (alike : (j : ℕ) → (T (some_writes j mine) → ⊥) → find j b ≡ find j c) where

@@ -1,11 +1,11 @@
 -- What is turned away, and what is told a refusal.
-use Rattle.std.proofs.Common.{◌≡◌, ℕ, suc, Bool, true, false, not, ◌&&◌, ◌||◌, T, eqb, ltb, List, [], ◌∷◌, length, Some, None, sym, refl, ap, ◌∙◌, inl, inr, arith}
+use Rattle.std.proofs.Common.{◌≡◌, ℕ, Bool, true, false, not, ◌&&◌, ◌||◌, T, eqb, ltb, List, [], ◌∷◌, length, Some, None, sym, ap, ◌∙◌, inl, inr, arith}
 use Rattle.std.proofs.lemmas.Bool.{cases_Bool, or_parts, ltb-false}
 use Rattle.deals.specs.declared.Op.{Op}
-use Rattle.deals.specs.declared.Op.TheVariants.{Get, Put, Drop, Next, Mark, Back, Commit, Undo}
-use Rattle.deals.specs.declared.Answer.TheVariants.{Done, Missing, Word, No}
+use Rattle.deals.specs.declared.Op.TheVariants.{Back}
+use Rattle.deals.specs.declared.Answer.TheVariants.{Missing, Word, No}
 use Rattle.deals.specs.declared.refusals.Refusal.TheVariants.{NoMark, TooLong, NotBuilt}
-use Rattle.deals.specs.Deals.{Book, Said, step, from, word_of, pair_of, leaves, marks_of, ends, comes_to}
+use Rattle.deals.specs.Deals.{Book, Said, step, word_of, pair_of, leaves, marks_of, ends, comes_to}
 use Rattle.deals.specs.Refusals.{Refuses, not_built, too_long, no_mark, goes_on}
 
 clash : ◌≡◌ {A = ℕ} 0 1 → ⊥
@@ -28,14 +28,7 @@ pair_told n (p ∷ ps) e = clash (cc)
 
 no_told : (o : Op) (b : Book) (ms : List Book) (n : ℕ) → ((j : ℕ) → o ≡ Back j → ltb j (length ms) ≡ true) → (step o b ms).answer ≡ No n → ⊥
 unfolding step
-no_told (Get k) b ms n h e = word_told k n (from k b) e
-no_told (Put k x) b ms n h e = clash (cc)
-no_told (Drop k) b ms n h e = word_told k n (from k b) e
-no_told (Next k) b ms n h e = pair_told n (from (suc k) b) e
-no_told Mark b ms n h e = clash (cc)
-no_told (Back j) b ms n h e = let f : Done ≡ No n = rw (h j refl) at e in clash (cc)
-no_told Commit b ms n h e = clash (cc)
-no_told Undo b ms n h e = clash (cc)
+no_told o b ms n h e = grind (arith, word_told, pair_told)
 
 back_told : (o : Op) (j : ℕ) (b : Book) (ms : List Book) → o ≡ Back j → ltb j (length ms) ≡ false → (step o b ms).answer ≡ No 4
 unfolding step

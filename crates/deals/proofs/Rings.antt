@@ -5,9 +5,6 @@ use Rattle.std.proofs.lemmas.Bool.{eq-eqb, ne_eqb, cases_eq, cases_Bool, cases_l
 use Rattle.deals.specs.declared.Op.{Op}
 use Rattle.deals.specs.Deals.{State, some', is_in, those, further, reach, ring, waits}
 
-pub none_below : (i : ℕ) → i < 0 → ⊥
-none_below i h = omega arith
-
 is_in_past : (n : ℕ) (f : ℕ → Bool) (e : ℕ) → n ≤ e → is_in e (those n f) ≡ false
 unfolding is_in those
 is_in_past zero f e h = refl
@@ -19,7 +16,7 @@ is_in_past (suc n) f e h =
 
 is_in_below : (n : ℕ) (f : ℕ → Bool) (e : ℕ) → e < n → is_in e (those n f) ≡ f e
 unfolding is_in those
-is_in_below zero f e h = absurd (none_below e h)
+is_in_below zero f e h = absurd (omega arith)
 is_in_below (suc n) f e h =
     elim (cases_eq e n) [
       | inl i ↦ elim (cases_Bool (f n)) [
@@ -33,11 +30,7 @@ is_in_below (suc n) f e h =
     ]
 
 pub is_in_those : (n : ℕ) (f : ℕ → Bool) (e : ℕ) → is_in e (those n f) ≡ (ltb e n && f e)
-is_in_those n f e =
-    elim (cases_lt e n) [
-      | inl h ↦ rw (lt-ltb e n h) (is_in_below n f e h)
-      | inr h ↦ rw (le-ltb e n h) (is_in_past n f e h)
-    ]
+is_in_those n f e = grind (arith, cases_lt, lt-ltb, is_in_below, le-ltb, is_in_past)
 
 -- from a set, all who are in it and all whom one of it waits for
 abbrev pub spread : (ℕ → ℕ → Bool) → (ℕ → Bool) → ℕ → Bool

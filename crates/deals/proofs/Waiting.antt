@@ -1,11 +1,10 @@
 -- For whom a clerk waits, by the tables.
-use Rattle.std.proofs.Common.{◌≡◌, ℕ, ◌*◌, ◌<◌, Bool, true, false, not, ◌&&◌, ◌||◌, eqb, ltb, List, take, drop, Option, sym, refl, ap, ◌∙◌, inl, inr}
-use Rattle.lines.specs.Rings.{lines_of}
-use Rattle.lines.specs.Tables.{deal_ring, deal_lines}
+use Rattle.std.proofs.Common.{◌≡◌, ℕ, ◌<◌, Bool, true, false, not, ◌&&◌, ◌||◌, eqb, ltb, List, Option, sym, ap, ap₂, ◌∙◌, inl, inr, arith}
+use Rattle.std.proofs.Math.Bool.{and-true}
 use Rattle.std.proofs.lemmas.Bool.{cases_lt, le-ltb, and_left, and_right}
 use Rattle.locks.specs.Bars.{some_bars}
 use Rattle.deals.specs.declared.Op.{Op}
-use Rattle.deals.specs.declared.Op.TheVariants.{Get, Put, Drop, Next, Mark, Back, Commit, Undo}
+use Rattle.deals.specs.declared.Op.TheVariants.{Next}
 use Rattle.deals.specs.declared.Answer.{Answer}
 use Rattle.deals.specs.Deals.{State, Under, waits, waits_for, told, ends, comes_to, barred}
 use Rattle.deals.specs.Rows.{want_of, Finds}
@@ -13,30 +12,21 @@ use Rattle.deals.specs.Tables.{count_at, lines_in, op_at, is_under, Keeps, Desk,
 use Rattle.deals.specs.LineUps.{FindsFor}
 use Rattle.deals.proofs.Barring.{lines_barred}
 
--- the lines of a deal, by its part of the room
-pub part_lines : (room : List ℕ) (e k : ℕ) → k ≡ 3072 → lines_of (take k (drop (3072 * e) room)) (deal_ring (count_at room e)) ≡ lines_in room e
-unfolding lines_in deal_lines
-part_lines room e k h = rw h
-
 -- only a Next must know what it would find
 pub finds_any : (o : Op) (a : Answer) (f : Option ℕ) → ((k : ℕ) → o ≡ Next k → ⊥) → Finds o a f
 unfolding Finds
-finds_any (Get k) a f h = tt
-finds_any (Put k x) a f h = tt
-finds_any (Drop k) a f h = tt
-finds_any (Next k) a f h = absurd (h k refl)
-finds_any Mark a f h = tt
-finds_any (Back j) a f h = tt
-finds_any Commit a f h = tt
-finds_any Undo a f h = tt
+finds_any o a f h = grind arith
 
 -- what is turned away, by the number of lines
 pub comes_is : (can : Op → Bool) (room : List ℕ) (s : State) (c : ℕ) (o : Op) → Keeps room c (s.clerk c).deal → (can o && (ends o || ltb (count_at room c) 1024)) ≡ comes_to can o (s.clerk c).deal
 comes_is can room s c o i = ap (λ n. can o && (ends o || ltb n 1024)) i.count
 
-and_true : (x : Bool) → (x && true) ≡ x
-and_true true = refl
-and_true false = refl
+-- the test, on what stands in the tables
+pub comes_at : (can : Op → Bool) (room : List ℕ) (c : ℕ) (o : Op) (n : ℕ) (b : Bool) → o ≡ op_at room c → n ≡ count_at room c → b ≡ (can o && (ends o || ltb n 1024)) → (can (op_at room c) && (ends (op_at room c) || ltb (count_at room c) 1024)) ≡ b
+comes_at can room c o n b is few e = sym (e ∙ ap₂ (λ p m. can p && (ends p || ltb m 1024)) is few)
+
+pub comes_by : (can : Op → Bool) (room : List ℕ) (s : State) (c : ℕ) (o : Op) (n : ℕ) (b : Bool) → Keeps room c (s.clerk c).deal → o ≡ op_at room c → n ≡ count_at room c → b ≡ (can o && (ends o || ltb n 1024)) → comes_to can (op_at room c) (s.clerk c).deal ≡ b
+comes_by can room s c o n b i is few e = sym (comes_is can room s c (op_at room c) i) ∙ comes_at can room c o n b is few e
 
 module _ (can : Op → Bool) (room : List ℕ) (s : State) (c : ℕ) (d : Desk room s) (few : c < 32) (asks : Asks room s) (u : is_under (s.clerk c).now' ≡ true) where
   o : Op
@@ -58,7 +48,7 @@ module _ (can : Op → Bool) (room : List ℕ) (s : State) (c : ℕ) (d : Desk r
       elim (cases_lt k 32) [
         | inl l ↦ ap (λ x. ltb k 32 && x)
             (ap (λ x. not (eqb c k) && x) (lines_barred (lines_in room k) (s.clerk k).deal o (told o (s.clerk c).deal s.book) f (d k l).lines (h comes))
-            ∙ ap (λ x. x && barred o (told o (s.clerk c).deal s.book) (s.clerk k).deal) (sym (ap (λ x. not (eqb c k) && x) comes ∙ and_true (not (eqb c k)))) ∙ sym (waits_by k))
+            ∙ ap (λ x. x && barred o (told o (s.clerk c).deal s.book) (s.clerk k).deal) (sym (ap (λ x. not (eqb c k) && x) comes ∙ and-true (not (eqb c k)))) ∙ sym (waits_by k))
         | inr l ↦ and_left (ltb k 32) (not (eqb c k) && some_bars (want_of o f) (lines_in room k)) (le-ltb k 32 l) ∙ sym (and_left (ltb k 32) (waits can s c k) (le-ltb k 32 l))
       ]
 
@@ -67,7 +57,3 @@ module _ (can : Op → Bool) (room : List ℕ) (s : State) (c : ℕ) (d : Desk r
   waits_none e k =
       and_right (ltb k 32) (waits can s c k)
       (waits_by k ∙ and_left (not (eqb c k) && comes_to can o (s.clerk c).deal) (barred o (told o (s.clerk c).deal s.book) (s.clerk k).deal) (and_right (not (eqb c k)) (comes_to can o (s.clerk c).deal) (sym (comes_is can room s c o (d c few)) ∙ e)))
-
--- the test on an op that is the clerk's
-pub comes_by : (can : Op → Bool) (room : List ℕ) (s : State) (c : ℕ) (o : Op) (b : Bool) → Keeps room c (s.clerk c).deal → o ≡ op_at room c → b ≡ (can o && (ends o || ltb (count_at room c) 1024)) → comes_to can (op_at room c) (s.clerk c).deal ≡ b
-comes_by can room s c o b i e f = sym (comes_is can room s c (op_at room c) i) ∙ sym (ap (λ p. can p && (ends p || ltb (count_at room c) 1024)) e) ∙ sym f

@@ -1,14 +1,11 @@
 -- Who waits as deals stay and what is asked changes: who counts goes on counting until somebody is told.
-use Rattle.std.proofs.Common.{◌≡◌, ℕ, zero, suc, Bool, false, not, ◌&&◌, ◌||◌, T, eqb, ltb, List, sym, refl, ap, ◌∙◌, ap₂, inl, inr, T_not}
+use Rattle.std.proofs.Common.{◌≡◌, ℕ, zero, suc, Bool, false, not, ◌&&◌, ◌||◌, T, eqb, ltb, List, sym, refl, ap, ◌∙◌, ap₂, inl, inr, T_not, arith}
 use mathlib.Core.Path.{fun_ext}
 use lib.Dec.{not_T}
 use Rattle.std.proofs.lemmas.Bool.{eq-eqb, ne_eqb, cases_eq}
 use Rattle.deals.specs.declared.Op.{Op}
 use Rattle.deals.specs.declared.Answer.{Answer}
 use Rattle.deals.specs.Deals.{Said, Now, Quiet, Under, Over, State, set_clerk, aged, older, some', waits, waits_for, counts, comes_to, barred, told}
-use Rattle.deals.proofs.Books.{and_t, t_and}
-use Rattle.deals.proofs.Writes.{or_left, or_right}
-use Rattle.deals.proofs.Others.{or_either}
 use Rattle.deals.proofs.Rings.{spread, reached, ring_is}
 
 -- counts, by who waits for whom
@@ -20,10 +17,10 @@ counts_is can s c = ap (λ x. not (some' 32 (waits can s c)) || x) (ring_is can 
 
 -- more waits, more rings
 and_grows : (x y u v : Bool) → (T x → T u) → (T y → T v) → T (x && y) → T (u && v)
-and_grows x y u v f g t = let m = and_t x y t in t_and u v (f m.0) (g m.1)
+and_grows x y u v f g t = grind arith
 
 or_grows : (x y u v : Bool) → (T x → T u) → (T y → T v) → T (x || y) → T (u || v)
-or_grows x y u v f g t = or_either x y (T (u || v)) t (λ a. or_left u v (f a)) (λ a. or_right u v (g a))
+or_grows x y u v f g t = grind arith
 
 pub some_grows : (n : ℕ) (f g : ℕ → Bool) → ((i : ℕ) → T (f i) → T (g i)) → T (some' n f) → T (some' n g)
 unfolding some'
@@ -31,10 +28,7 @@ some_grows zero f g h t = t
 some_grows (suc n) f g h t = or_grows (some' n f) (f n) (some' n g) (g n) (some_grows n f g h) (h n) t
 
 spread_grows : (w v : ℕ → ℕ → Bool) (s r : ℕ → Bool) → ((d e : ℕ) → T (w d e) → T (v d e)) → ((e : ℕ) → T (s e) → T (r e)) → (e : ℕ) → T (spread w s e) → T (spread v r e)
-spread_grows w v s r f g e =
-    and_grows (ltb e 32) (s e || some' 32 (λ (d : ℕ). s d && w d e)) (ltb e 32) (r e || some' 32 (λ (d : ℕ). r d && v d e)) (λ t. t)
-    (or_grows (s e) (some' 32 (λ (d : ℕ). s d && w d e)) (r e) (some' 32 (λ (d : ℕ). r d && v d e)) (g e)
-    (some_grows 32 (λ (d : ℕ). s d && w d e) (λ (d : ℕ). r d && v d e) (λ d. and_grows (s d) (w d e) (r d) (v d e) (g d) (f d e))))
+spread_grows w v s r f g e = grind (arith, and_grows, or_grows, some_grows)
 
 pub reached_grows : (n : ℕ) (w v : ℕ → ℕ → Bool) (s r : ℕ → Bool) → ((d e : ℕ) → T (w d e) → T (v d e)) → ((e : ℕ) → T (s e) → T (r e)) → (e : ℕ) → T (reached n w s e) → T (reached n v r e)
 reached_grows zero w v s r f g e t = g e t
@@ -65,9 +59,7 @@ waits_like can s r c e (Over o a g) l = refl
 -- a turn changes nothing of this
 waits_older : (can : Op → Bool) (s : State) (c e : ℕ) (y : Bool) (n : Now) → waits_for can s c e (older y n) ≡ waits_for can s c e n
 unfolding waits_for older
-waits_older can s c e y Quiet = refl
-waits_older can s c e y (Under o g) = refl
-waits_older can s c e y (Over o a g) = refl
+waits_older can s c e y n = grind arith
 
 pub waits_aged : (can : Op → Bool) (s : State) (c e : ℕ) → waits can (aged can s) c e ≡ waits can s c e
 waits_aged can s c e = waits_like can (aged can s) s c e (older (counts can s c) (s.clerk c).now') (record { book = refl; deals = λ j. refl }) ∙ waits_older can s c e (counts can s c) (s.clerk c).now'

@@ -1,5 +1,5 @@
 -- A deal as a row of writes: what it leaves of a book, and what is found there.
-use Rattle.std.proofs.Common.{◌≡◌, ℕ, suc, Bool, true, false, ◌||◌, T, ltb, List, [], ◌∷◌, ◌++◌, map, length, sym, refl, ap, ◌∙◌, ap₂, inl, inr, arith}
+use Rattle.std.proofs.Common.{◌≡◌, ℕ, suc, Bool, ◌||◌, T, ltb, List, [], ◌∷◌, ◌++◌, map, length, refl, ap, ◌∙◌, ap₂, inl, inr, arith}
 use lib.Dec.{eqb_refl}
 use Rattle.std.specs.List.{AllByRecursion}
 use Rattle.std.proofs.lemmas.List.{length-map, map_push, get_or-map, take-map}
@@ -47,33 +47,11 @@ find_onto j b (w ∷ ws) u = find_onto j (apply w b) ws (up_apply w b u) ∙ ap 
 -- one step on a book with writes
 pub step_book : (b : Book) (o : Op) (ws : List Write) (ms : List (List Write)) → (step o (onto b ws) (map (onto b) ms)).book ≡ onto b (writes_then o ws ms)
 unfolding step
-step_book b (Get k) ws ms = refl
-step_book b (Put k x) ws ms = sym (onto_push b ws (Puts k x))
-step_book b (Drop k) ws ms = sym (onto_push b ws (Drops k))
-step_book b (Next k) ws ms = refl
-step_book b Mark ws ms = refl
-step_book b (Back j) ws ms =
-    elim (cases_Bool (ltb j (length ms))) [
-      | inl e ↦ rw (length-map ms (onto b), e) (get_or-map (onto b) ms j [] [] (ltb-true j (length ms) e))
-      | inr e ↦ rw (length-map ms (onto b), e)
-    ]
-step_book b Commit ws ms = refl
-step_book b Undo ws ms = refl
+step_book b o ws ms = grind (arith, onto_push, length-map, get_or-map)
 
 pub step_marks : (b : Book) (o : Op) (ws : List Write) (ms : List (List Write)) → (step o (onto b ws) (map (onto b) ms)).marks ≡ map (onto b) (marks_then o ws ms)
 unfolding step
-step_marks b (Get k) ws ms = refl
-step_marks b (Put k x) ws ms = refl
-step_marks b (Drop k) ws ms = refl
-step_marks b (Next k) ws ms = refl
-step_marks b Mark ws ms = sym (map_push (onto b) ms ws)
-step_marks b (Back j) ws ms =
-    elim (cases_Bool (ltb j (length ms))) [
-      | inl e ↦ rw (length-map ms (onto b), e) (take-map (onto b) (suc j) ms)
-      | inr e ↦ rw (length-map ms (onto b), e)
-    ]
-step_marks b Commit ws ms = refl
-step_marks b Undo ws ms = refl
+step_marks b o ws ms = grind (arith, map_push, length-map, take-map)
 
 -- all of a deal on a book with writes
 pub leaves_onto : (b : Book) (ss : List Said) (ws : List Write) (ms : List (List Write)) → leaves ss (onto b ws) (map (onto b) ms) ≡ onto b (writes_of ss ws ms)
@@ -97,8 +75,7 @@ pub up_leaves : (b : Book) (ss : List Said) → Up 0 b → Up 0 (leaves ss b [])
 up_leaves b ss u = rw (leaves_is b ss) (up_onto b (effect ss) u)
 
 written_miss : (j : ℕ) (w : Write) (d : Answer) → (j ≡ key_of w → ⊥) → written j w d ≡ d
-written_miss j (Puts k x) d h = rw (ne_eqb j k h)
-written_miss j (Drops k) d h = rw (ne_eqb j k h)
+written_miss j w d h = grind arith
 
 pub found_miss : (j : ℕ) (ws : List Write) (d : Answer) → Misses j ws → found j ws d ≡ d
 found_miss j [] d h = refl
@@ -120,12 +97,10 @@ miss_then j Commit ws ms n h g = (h, g)
 miss_then j Undo ws ms n h g = (h, g)
 
 pub or_left : (x y : Bool) → T x → T (x || y)
-or_left true y t = tt
-or_left false y t = absurd t
+or_left x y t = grind arith
 
 pub or_right : (x y : Bool) → T y → T (x || y)
-or_right true y t = tt
-or_right false y t = t
+or_right x y t = grind arith
 
 pub miss_all : (j : ℕ) (ss : List Said) (ws : List Write) (ms : List (List Write)) → (T (some_writes j ss) → ⊥) → Misses j ws → AllByRecursion (Misses j) ms → Misses j (writes_of ss ws ms)
 unfolding some_writes

@@ -4,6 +4,7 @@ pub mod Promise
 pub mod Books
 pub mod Writes
 pub mod Rows
+pub mod Kinds
 pub mod Tables
 pub mod LineUps
 pub mod Refusals

@@ -4,7 +4,8 @@ use Rattle.locks.specs.declared.graph.Pick.{Pick}
 use Rattle.locks.specs.declared.graph.WaitGraph.{WaitGraph}
 use Rattle.locks.specs.Graphs.{waits_in}
 use Rattle.deals.specs.declared.Op.{Op}
-use Rattle.deals.specs.Deals.{State, Now, Quiet, Under, Over, waits, counts, blocked, ring, told, comes_to}
+use Rattle.deals.specs.declared.Answer.{Answer}
+use Rattle.deals.specs.Deals.{Book, Said, State, Now, Quiet, Under, Over, set_clerk, waits, counts, blocked, ring, told, comes_to}
 use Rattle.deals.specs.Rows.{Finds}
 use Rattle.deals.specs.Tables.{is_under, Sound, Desk, Asks, order_of, op_at}
 
@@ -61,6 +62,11 @@ pub record Served (can : Op → Bool) (s : State) (q : List ℕ) (p : Pick) : Ty
   pub free : p.clash ≡ false → blocked can s p.who ≡ false
   pub ringed : p.clash ≡ true → ring can s p.who ≡ true
   pub before : (k : ℕ) → k < p.place → counts can s (slice_index q k) ≡ false
+
+-- the one picked is told a, on o: d is its deal then, and b the book
+abbrev pub Serves : (Op → Bool) → List ℕ → List ℕ → State → Pick → Book → List Said → Op → Answer → Type 0
+Serves can room then s p b d o a =
+    (g : ℕ) → TablesHold can true room s → Served can s (order_of room) p → TablesHold can false then (set_clerk p.who d (Over o a g) (record { book = b; clerk = s.clerk }))
 
 unfoldable pub Picked : (Op → Bool) → State → List ℕ → Option Pick → Type 0
 Picked can s q None = (k : ℕ) → k < length q → counts can s (slice_index q k) ≡ false

@@ -19,6 +19,10 @@ lines_in room c = deal_lines room c (count_at room c)
 abbrev pub words_op : ℕ → ℕ → ℕ → Op
 words_op t a b = cond (t == 0) (Get a) (cond (t == 1) (Put a b) (cond (t == 2) (Drop a) (cond (t == 3) (Next a) (cond (t == 4) Mark (cond (t == 5) (Back (a % 4294967296)) (cond (t == 6) Commit Undo))))))
 
+-- what these three are
+abbrev pub op_of : List ℕ → Op
+op_of words = words_op (slice_index words 0) (slice_index words 1) (slice_index words 2)
+
 -- what clerk c asks
 unfoldable pub op_at : List ℕ → ℕ → Op
 op_at room c = words_op (slice_index room (259584 + 3 * c)) (slice_index room (259584 + 3 * c + 1)) (slice_index room (259584 + 3 * c + 2))

@@ -1,76 +1,101 @@
 // What each clerk asks, in three words.
-ghost use Rattle.std.specs.Prelude.{◌≡◌, ◌<◌};
-ghost use Rattle.deals.specs.Tables.{words_op, op_at, Sound, OnlyAsk};
+ghost use Rattle.std.specs.Prelude.{◌≡◌};
+ghost use Rattle.deals.specs.Tables.{op_of, op_at, OnlyAsk};
+ghost use Rattle.deals.specs.Kinds.{kind_of};
 
 use super::Op;
 use super::layout::{ASK_WORDS, ASKS_AT};
+use super::tables::{Tables, TablesMut};
+use clerk::Clerk;
 
-const GET: u64 = 0;
+// The kinds of askings, in the order of their numbers in the room.
+#[derive(Clone, Copy, Debug, PartialEq, Eq)]
+enum Kind {
+    Get,
+    Put,
+    Drop,
+    Next,
+    Mark,
+    Back,
+    Commit,
+    Undo,
+}
 
-const PUT: u64 = 1;
+// A number that no kind has is read as an undo.
+impl From<u64> for Kind {
+    ghost from_gives = { λ number kind. kind ≡ kind_of number };
 
-const DROP: u64 = 2;
-
-const NEXT: u64 = 3;
-
-const MARK: u64 = 4;
-
-const BACK: u64 = 5;
-
-const COMMIT: u64 = 6;
-
-const UNDO: u64 = 7;
+    fn from(number: u64) -> Kind {
+        match number {
+            0 => Kind::Get,
+            1 => Kind::Put,
+            2 => Kind::Drop,
+            3 => Kind::Next,
+            4 => Kind::Mark,
+            5 => Kind::Back,
+            6 => Kind::Commit,
+            _ => Kind::Undo,
+        }
+    }
+}
 
 // Marks have numbers of 32 bits.
-const MARKS: u64 = 4294967296;
+const MARKS: u64 = 1 << 32;
 
-fn decode(tag: u64, a: u64, b: u64) -> Op
-    ensures { result ≡ words_op tag a b }
-{
-    match tag {
-        GET => Op::Get(a),
-        PUT => Op::Put(a, b),
-        DROP => Op::Drop(a),
-        NEXT => Op::Next(a),
-        MARK => Op::Mark,
-        BACK => Op::Back((a % MARKS) as u32),
-        COMMIT => Op::Commit,
-        _ => Op::Undo,
+impl From<[u64; ASK_WORDS]> for Op {
+    ghost from_gives = { λ words o. o ≡ op_of words };
+
+    fn from([kind, a, b]: [u64; ASK_WORDS]) -> Op {
+        match Kind::from(kind) {
+            Kind::Get => Op::Get(a),
+            Kind::Put => Op::Put(a, b),
+            Kind::Drop => Op::Drop(a),
+            Kind::Next => Op::Next(a),
+            Kind::Mark => Op::Mark,
+            Kind::Back => Op::Back((a % MARKS) as u32),
+            Kind::Commit => Op::Commit,
+            Kind::Undo => Op::Undo,
+        }
     }
 }
 
-fn encode(o: Op) -> (u64, u64, u64)
-    ensures { words_op result.0 result.1 result.2 ≡ o }
-{
-    match o {
-        Op::Get(k) => (GET, k, 0),
-        Op::Put(k, x) => (PUT, k, x),
-        Op::Drop(k) => (DROP, k, 0),
-        Op::Next(k) => (NEXT, k, 0),
-        Op::Mark => (MARK, 0, 0),
-        Op::Back(j) => (BACK, j as u64, 0),
-        Op::Commit => (COMMIT, 0, 0),
-        Op::Undo => (UNDO, 0, 0),
+impl From<Op> for [u64; ASK_WORDS] {
+    ghost from_gives = { λ o words. op_of words ≡ o };
+
+    fn from(o: Op) -> [u64; ASK_WORDS] {
+        let (kind, a, b) = match o {
+            Op::Get(k) => (Kind::Get, k, 0),
+            Op::Put(k, x) => (Kind::Put, k, x),
+            Op::Drop(k) => (Kind::Drop, k, 0),
+            Op::Next(k) => (Kind::Next, k, 0),
+            Op::Mark => (Kind::Mark, 0, 0),
+            Op::Back(j) => (Kind::Back, u64::from(j), 0),
+            Op::Commit => (Kind::Commit, 0, 0),
+            Op::Undo => (Kind::Undo, 0, 0),
+        };
+        [kind as u64, a, b]
     }
 }
 
-// What the clerk asks.
-pub fn read_op(room: &[u64], c: u32) -> Op
-    requires { (Sound room.now) × (c < 32) }
-    ensures { result ≡ op_at room.now c }
-{
-    let at = ASKS_AT + ASK_WORDS * c as usize;
-    decode(room[at], room[at + 1], room[at + 2])
+impl<'a> Tables<'a> {
+    // What the clerk asks.
+    #[tactic(auto, unfolding(crate::specs::Tables::op_at))]
+    pub fn read_op(&self, c: Clerk) -> Op
+        ensures { result ≡ op_at self.now.room.now c }
+    {
+        let at = ASKS_AT + ASK_WORDS * c.index();
+        Op::from([self.room[at], self.room[at + 1], self.room[at + 2]])
+    }
 }
 
-pub fn write_op(room: &mut [u64], c: u32, o: Op)
-    requires { (Sound room.old) × (c < 32) }
-    ensures written { op_at room.new c ≡ o }
-    ensures others { OnlyAsk c room.old room.new }
-{
-    let (tag, a, b) = encode(o);
-    let at = ASKS_AT + ASK_WORDS * c as usize;
-    room[at] = tag;
-    room[at + 1] = a;
-    room[at + 2] = b;
+impl<'a> TablesMut<'a> {
+    pub fn write_op(&mut self, c: Clerk, o: Op)
+        ensures lent { self.new.room.ghost_name ≡ self.old.room.ghost_name }
+        ensures written { op_at self.new.room.now c ≡ o }
+        ensures others { OnlyAsk c self.old.room.now self.new.room.now }
+    {
+        let words: [u64; ASK_WORDS] = o.into();
+        let at = ASKS_AT + ASK_WORDS * c.index();
+        self.room[at..at + ASK_WORDS].copy_from_slice(&words);
+    }
 }

@@ -4,64 +4,76 @@ ghost use Rattle.lines.specs.Rings.{lines_of};
 ghost use Rattle.lines.specs.Tables.{deal_ring};
 ghost use Rattle.deals.specs.Deals.{Said, State, Now, Book, set_clerk};
 ghost use Rattle.deals.specs.Rows.{line_for, said_lines, bare};
-ghost use Rattle.deals.specs.Tables.{Sound, Desk, OnlyDeals, count_at};
+ghost use Rattle.deals.specs.Tables.{Desk, OnlyDeals, count_at};
 
 use super::layout::COUNTS_AT;
+use super::tables::TablesMut;
 use super::{Answer, Op};
+use clerk::Clerk;
 use lines::line::Line;
 use lines::marks::go_back;
-use lines::ring::push;
 use lines::tables::{DEAL_WORDS, deal_ring};
 
-// The line that what was asked and told leaves. `above`: of a drop, the tree's first key above its own.
-fn line_for(o: Op, a: Answer, above: Option<u64>) -> Line
-    ensures { bare result ≡ line_for o a }
-{
-    match o {
-        Op::Get(k) => Line::Read(k),
-        Op::Put(k, x) => Line::Wrote(k, x),
-        Op::Drop(k) => Line::Cleared(k, above),
-        Op::Next(k) => match a {
-            Answer::Missing => Line::Scanned(k, None),
-            Answer::Pair(found, _) => Line::Scanned(k, Some(found)),
+// What was asked in a deal, and told. `Op` and `Answer` are the statements' own, which cannot be compared or printed, so neither can this.
+#[derive(Clone, Copy)]
+pub struct Telling {
+    pub op: Op,
+    pub answer: Answer,
+    // Of a drop, the tree's first key above its own.
+    pub above: Option<u64>,
+}
+
+// The line that it leaves.
+impl From<Telling> for Line {
+    ghost from_gives = { λ said line. bare line ≡ line_for said.op said.answer };
+
+    fn from(said: Telling) -> Line {
+        match (said.op, said.answer) {
+            (Op::Get(k), _) => Line::Read(k),
+            (Op::Put(k, x), _) => Line::Wrote(k, x),
+            (Op::Drop(k), _) => Line::Cleared(k, said.above),
+            (Op::Next(k), Answer::Missing) => Line::Scanned(k, None),
+            (Op::Next(k), Answer::Pair(found, _)) => Line::Scanned(k, Some(found)),
+            (Op::Mark, _) => Line::Marked,
             _ => Line::Idle,
-        },
-        Op::Mark => Line::Marked,
-        _ => Line::Idle,
+        }
     }
 }
 
 // One more is told in a deal whose n lines stand in these words.
-fn note(words: &mut [u64], n: usize, o: Op, a: Answer, above: Option<u64>)
+fn note(words: &mut [u64], n: usize, said: Telling)
     requires { (length words.old ≡ 3072) × (n < 1024) }
-    ensures { (ss : List Said) → map bare (lines_of words.old (deal_ring n)) ≡ said_lines ss → map bare (lines_of words.new (deal_ring (n + 1))) ≡ said_lines (ss ++ record { op = o; told = a } ∷ []) }
+    ensures { (ss : List Said) → map bare (lines_of words.old (deal_ring n)) ≡ said_lines ss → map bare (lines_of words.new (deal_ring (n + 1))) ≡ said_lines (ss ++ record { op = said.op; told = said.answer } ∷ []) }
 {
-    if let Op::Back(j) = o {
-        go_back(words, deal_ring(n), j as usize + 1);
+    let ring = deal_ring(n);
+    if let Op::Back(j) = said.op {
+        go_back(words, ring, j as usize + 1);
     }
-    let _ = push(words, deal_ring(n), line_for(o, a, above));
+    ring.push(words, said.into());
 }
 
-// The clerk, whose deal has fewer than 1,024 lines, is told a.
-pub fn tell(room: &mut [u64], c: u32, o: Op, a: Answer, above: Option<u64>)
-    requires sound { Sound room.old }
-    requires clerk { c < 32 }
-    requires short { count_at room.old c < 1024 }
-    ensures deals { (s : State) (n : Now) → Desk room.old s → Desk room.new (set_clerk c ((s.clerk c).deal ++ record { op = o; told = a } ∷ []) n s) }
-    ensures others { OnlyDeals room.old room.new }
-{
-    let n = room[COUNTS_AT + c as usize];
-    let at = DEAL_WORDS * c as usize;
-    note(&mut room[at..at + DEAL_WORDS], n as usize, o, a, above);
-    room[COUNTS_AT + c as usize] = n + 1;
-}
+impl<'a> TablesMut<'a> {
+    // The clerk, whose deal has fewer than 1,024 lines, is told this.
+    pub fn tell(&mut self, c: Clerk, said: Telling)
+        requires { count_at self.old.room.now c < 1024 }
+        ensures lent { self.new.room.ghost_name ≡ self.old.room.ghost_name }
+        ensures deals { (s : State) (n : Now) → Desk self.old.room.now s → Desk self.new.room.now (set_clerk c ((s.clerk c).deal ++ record { op = said.op; told = said.answer } ∷ []) n s) }
+        ensures others { OnlyDeals self.old.room.now self.new.room.now }
+    {
+        let room = &mut *self.room;
+        let deal = c.index();
+        let n = room[COUNTS_AT + deal];
+        let at = DEAL_WORDS * deal;
+        note(&mut room[at..at + DEAL_WORDS], n as usize, said);
+        room[COUNTS_AT + deal] = n + 1;
+    }
 
-// The clerk's deal is over.
-pub(crate) fn forget(room: &mut [u64], c: u32)
-    requires sound { Sound room.old }
-    requires clerk { c < 32 }
-    ensures deals { (s : State) (b : Book) (n : Now) → Desk room.old s → Desk room.new (set_clerk c [] n (record { book = b; clerk = s.clerk })) }
-    ensures others { OnlyDeals room.old room.new }
-{
-    room[COUNTS_AT + c as usize] = 0;
+    // The clerk's deal is over.
+    pub(crate) fn forget(&mut self, c: Clerk)
+        ensures lent { self.new.room.ghost_name ≡ self.old.room.ghost_name }
+        ensures deals { (s : State) (b : Book) (n : Now) → Desk self.old.room.now s → Desk self.new.room.now (set_clerk c [] n (record { book = b; clerk = s.clerk })) }
+        ensures others { OnlyDeals self.old.room.now self.new.room.now }
+    {
+        self.room[COUNTS_AT + c.index()] = 0;
+    }
 }

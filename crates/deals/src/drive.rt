@@ -11,12 +11,9 @@ pub struct Drive<'a, D> {
 }
 
 // The same end in the store's words.
-fn off(g: Result<(), Gone>) -> Result<(), store::Gone>
-    ensures { is_ok result ≡ is_ok g }
-{
-    match g {
-        Ok(()) => Ok(()),
-        Err(Gone) => Err(store::Gone),
+impl From<Gone> for store::Gone {
+    fn from(_gone: Gone) -> store::Gone {
+        store::Gone
     }
 }
 
@@ -29,15 +26,18 @@ impl<'a, D: Pages> Device for Drive<'a, D> {
         self.disk.pages()
     }
 
+    #[tactic(auto, using(crate::proofs::Drives::reads))]
     fn read(&mut self, p: u64, into: &mut [u64]) -> Result<(), store::Gone> {
-        off(self.disk.read(p, into))
+        Ok(self.disk.read(p, into)?)
     }
 
+    #[tactic(auto, using(crate::proofs::Drives::wrote))]
     fn write(&mut self, p: u64, words: &[u64]) -> Result<(), store::Gone> {
-        off(self.disk.write(p, words))
+        Ok(self.disk.write(p, words)?)
     }
 
+    #[tactic(auto, using(crate::proofs::Drives::synced))]
     fn sync(&mut self) -> Result<(), store::Gone> {
-        off(self.disk.sync())
+        Ok(self.disk.sync()?)
     }
 }

@@ -10,6 +10,7 @@ pub mod order;
 pub mod pick;
 pub mod refusals;
 pub mod serving;
+pub mod tables;
 
 ghost use Rattle.std.specs.Prelude.{◌≡◌, ℕ, ◌+◌, ◌*◌, ◌<◌, ◌≤◌, Bool, true, false, T, List, [], ◌∷◌, length, is_ok};
 ghost use Rattle.deals.specs.Disk.{Disk, MayAsk, Reading, Writing, Syncing, Back, Blank, allowed};

@@ -2,14 +2,11 @@
 ghost use Rattle.std.specs.Prelude.{◌≡◌, ◌≤◌, false, is_ok, Ok};
 ghost use Rattle.deals.specs.Stub.{joined, first_told, others};
 
+use super::refusals::Refusal;
 use super::{Answer, Gone, Op, Pages};
+use clerk::Clerk;
 
-// Why something is turned away that isn't built.
-const NOT_BUILT: u32 = 9;
-
-const CLERKS: u32 = 32;
-
-// Who has asked and hasn't been told, a bit for each clerk.
+// Who has asked and hasn't been told, a bit for each clerk. A `ClerkSet` would not do: it has no lowest, and lets nobody out.
 #[derive(Drop)]
 pub struct Office {
     waiting: u32,
@@ -33,8 +30,8 @@ impl Office {
         ensures room { room.new ≡ room.old }
     {
         let _o = o;
-        if who < CLERKS {
-            self.waiting |= 1 << who;
+        if let Ok(clerk) = Clerk::try_from(who) {
+            self.waiting |= 1 << clerk.number();
         }
     }
 
@@ -51,11 +48,11 @@ impl Office {
         ensures disk { D.disk d.new ≡ D.disk d.old }
         ensures room { room.new ≡ room.old }
     {
-        let waiting = self.waiting;
-        if waiting == 0 {
+        if self.waiting == 0 {
             return Ok(None);
         }
-        self.waiting = waiting & (waiting - 1);
-        Ok(Some((waiting.trailing_zeros(), Answer::No(NOT_BUILT))))
+        let first = self.waiting.trailing_zeros();
+        self.waiting &= self.waiting - 1;
+        Ok(Some((first, Refusal::NotBuilt.into())))
     }
 }

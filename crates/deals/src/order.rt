@@ -1,59 +1,75 @@
 // Those who have asked, in the order in which they did.
-ghost use Rattle.std.specs.Prelude.{◌≡◌, ◌+◌, ◌-◌, ◌<◌, ◌≤◌, [], ◌∷◌, ◌++◌, length, take, slice_index};
+ghost use Rattle.std.specs.Prelude.{◌≡◌, ℕ, ◌+◌, ◌-◌, ◌<◌, ◌≤◌, [], ◌∷◌, ◌++◌, length, take, slice_index};
 ghost use Rattle.std.specs.List.{remove};
-ghost use Rattle.deals.specs.Tables.{Sound, OnlyOrder, waiting_in, order_of};
+ghost use Rattle.deals.specs.Tables.{OnlyOrder, waiting_in, order_of};
 
-use super::layout::{ORDER_AT, ORDER_END, WAITING_AT};
+use super::layout::{ORDER_AT, WAITING_AT};
+use super::tables::{Tables, TablesMut};
+use clerk::Clerk;
 
-// How many have asked.
-pub fn waiting(room: &[u64]) -> usize
-    requires { Sound room.now }
-    ensures { (result ≡ length (order_of room.now)) × (result ≡ waiting_in room.now) }
-{
-    room[WAITING_AT] as usize
+impl<'a> Tables<'a> {
+    // How many have asked.
+    #[tactic(auto, using(crate::proofs::Orders::order_long))]
+    pub fn waiting(&self) -> usize
+        ensures long { result ≡ length (order_of self.now.room.now) }
+        ensures is { result ≡ waiting_in self.now.room.now }
+    {
+        self.room[WAITING_AT] as usize
+    }
+
+    // Their numbers.
+    #[tactic(auto, using(crate::proofs::Graphing::order_part, crate::proofs::Orders::order_long, crate::proofs::Orders::order_few))]
+    pub(crate) fn order(&self) -> &[u64]
+        ensures is { result.now ≡ order_of self.now.room.now }
+        ensures long { length result.now ≡ waiting_in self.now.room.now }
+        ensures few { (k : ℕ) → k < length result.now → slice_index result.now k < 32 }
+    {
+        let n = self.waiting();
+        &self.room[ORDER_AT..ORDER_AT + n]
+    }
+
+    // Who stands at place i.
+    #[tactic(auto, using(crate::proofs::Orders::order_at))]
+    pub fn who_at(&self, i: usize) -> Clerk
+        requires { i < waiting_in self.now.room.now }
+        ensures { result ≡ slice_index (order_of self.now.room.now) i }
+    {
+        Clerk::new(self.room[ORDER_AT + i] as u32)
+    }
 }
 
-// Who stands at place i.
-pub fn who_at(room: &[u64], i: usize) -> u32
-    requires { (Sound room.now) × (i < waiting_in room.now) }
-    ensures { (result ≡ slice_index (order_of room.now) i) × (result < 32) }
+// The one at this place is gone, and a word is left over at the end.
+fn close_up(order: &mut [u64], place: usize)
+    requires { place < length order.old }
+    ensures { take (length order.old - 1) order.new ≡ remove order.old place }
 {
-    room[ORDER_AT + i] as u32
+    order[place..].rotate_left(1);
 }
 
-fn stand_last(order: &mut [u64], n: usize, who: u32)
-    requires { n < length order.old }
-    ensures { take (n + 1) order.new ≡ take n order.old ++ who ∷ [] }
-{
-    order[n] = who as u64;
-}
+impl<'a> TablesMut<'a> {
+    // One has asked, and stands last.
+    pub fn join(&mut self, who: Clerk)
+        requires { waiting_in self.old.room.now < 32 }
+        ensures lent { self.new.room.ghost_name ≡ self.old.room.ghost_name }
+        ensures order { order_of self.new.room.now ≡ order_of self.old.room.now ++ who ∷ [] }
+        ensures others { OnlyOrder self.old.room.now self.new.room.now }
+    {
+        let room = &mut *self.room;
+        let n = room[WAITING_AT];
+        room[ORDER_AT + n as usize] = u64::from(who.number());
+        room[WAITING_AT] = n + 1;
+    }
 
-fn close_up(order: &mut [u64], n: usize, place: usize)
-    requires { (n ≤ length order.old) × (place < n) }
-    ensures { take (n - 1) order.new ≡ remove (take n order.old) place }
-{
-    let part = &mut order[place..n];
-    part.rotate_left(1);
-}
-
-// One has asked, and stands last.
-pub fn join(room: &mut [u64], who: u32)
-    requires { (Sound room.old) × ((who < 32) × (waiting_in room.old < 32)) }
-    ensures order { order_of room.new ≡ order_of room.old ++ who ∷ [] }
-    ensures others { OnlyOrder room.old room.new }
-{
-    let n = room[WAITING_AT];
-    stand_last(&mut room[ORDER_AT..ORDER_END], n as usize, who);
-    room[WAITING_AT] = n + 1;
-}
-
-// The one at this place is served, and the others close up.
-pub fn leave(room: &mut [u64], place: usize)
-    requires { (Sound room.old) × (place < waiting_in room.old) }
-    ensures order { order_of room.new ≡ remove (order_of room.old) place }
-    ensures others { OnlyOrder room.old room.new }
-{
-    let n = room[WAITING_AT];
-    close_up(&mut room[ORDER_AT..ORDER_END], n as usize, place);
-    room[WAITING_AT] = n - 1;
+    // The one at this place is served, and the others close up.
+    pub fn leave(&mut self, place: usize)
+        requires { place < waiting_in self.old.room.now }
+        ensures lent { self.new.room.ghost_name ≡ self.old.room.ghost_name }
+        ensures order { order_of self.new.room.now ≡ remove (order_of self.old.room.now) place }
+        ensures others { OnlyOrder self.old.room.now self.new.room.now }
+    {
+        let room = &mut *self.room;
+        let n = room[WAITING_AT];
+        close_up(&mut room[ORDER_AT..ORDER_AT + n as usize], place);
+        room[WAITING_AT] = n - 1;
+    }
 }

@@ -1,35 +1,27 @@
 use Rattle.std.proofs.Common.{◌≡◌, ℕ, ◌+◌, List, [], ◌∷◌, ◌++◌, map, sym, ap, ◌∙◌}
 use Rattle.lines.specs.declared.line.Line.{Line}
 use Rattle.lines.specs.declared.ring.Ring.{Ring}
-use Rattle.lines.specs.Marks.{backed}
 use Rattle.lines.specs.Rings.{lines_of}
 use Rattle.lines.specs.Tables.{deal_ring}
-use Rattle.deals.specs.declared.Op.{Op}
-use Rattle.deals.specs.Rows.{gone_by, line_for, bare}
+use Rattle.deals.specs.Rows.{gone_by, bare}
 use Rattle.deals.proofs.Backs.{gone_none, gone_back, bare_push, ring_is}
 use Rattle.deals.proofs.desk.note.Goals as goal
 use Rattle.deals.proofs.desk.note.Goals.{in-Back, in_default}
 
--- the op, and the lines before the push
-went : (c : goal.After-slice_known-2-1) → (c.match-o.o ≡ c.args.o) × (lines_of c.match-o.words (deal_ring c.args.n) ≡ gone_by c.args.o (lines_of c.args.words.now (deal_ring c.args.n)))
+-- the lines before the push
+went : (c : goal.After-slice_known-2-1) → lines_of c.match-said.words c.deal_ring-ring.result ≡ gone_by c.args.said.op (lines_of c.args.words.now c.deal_ring-ring.result)
 went c =
-    let r = deal_ring c.args.n in
+    let r = c.deal_ring-ring.result in
     let ls = lines_of c.args.words.now r in
-    elim c.match-o.branch [
-      | in-Back w ↦ (
-        w.o-is ∙ sym w.in-Back.is,
-        ap (λ (x : List ℕ). lines_of x r) w.words-is ∙ ap (lines_of w.go_back.new.words) (sym w.deal_ring.ensures) ∙ w.go_back.ensures.lines
-            ∙ ap (λ (x : Ring). backed (w.in-Back.j + 1) (lines_of c.args.words.now x)) w.deal_ring.ensures ∙ sym (gone_back c.args.o w.in-Back.j ls w.in-Back.is),
-      )
-      | in_default w ↦ (w.o-is, ap (λ (x : List ℕ). lines_of x r) w.words-is ∙ sym (gone_none c.args.o ls w.in_default.not-Back))
+    elim c.match-said.branch [
+      | in-Back w ↦ ap (λ (x : List ℕ). lines_of x r) w.words-is ∙ w.go_back.ensures.lines ∙ sym (gone_back c.args.said.op w.in-Back.j ls w.in-Back.is)
+      | in_default w ↦ ap (λ (x : List ℕ). lines_of x r) w.words-is ∙ sym (gone_none c.args.said.op ls w.in_default.not-Back)
     ]
 
 pub returns : goal.returns
 returns c ss e =
-    let g = went c in
-    let d = c.deal_ring-2.ensures in
+    let d = c.deal_ring-ring.ensures in
     let grown = c.push.ensures.grown in
     let ring : c.push.result ≡ deal_ring (c.args.n + 1) = ring_is c.push.result (c.args.n + 1) (grown.0 ∙ ap (λ (x : Ring). x.cap) d) (grown.1.0 ∙ ap (λ (x : Ring). x.start) d) (grown.1.1 ∙ ap (λ (x : Ring). x.count + 1) d) in
-    let pushed : lines_of c.push.new.words (deal_ring (c.args.n + 1)) ≡ gone_by c.args.o (lines_of c.args.words.now (deal_ring c.args.n)) ++ c.line_for.result ∷ [] =
-    ap (lines_of c.push.new.words) (sym ring) ∙ c.push.ensures.lines ∙ ap (λ (ls : List Line). ls ++ c.line_for.result ∷ []) (ap (lines_of c.match-o.words) c.deal_ring-2.ensures ∙ g.1) in
-    ap (map bare) pushed ∙ bare_push (lines_of c.args.words.now (deal_ring c.args.n)) ss (record { op = c.args.o; told = c.args.a }) c.line_for.result e (c.line_for.ensures ∙ ap (λ (o : Op). line_for o c.args.a) g.0)
+    let pushed = rw (ring, d) at (c.push.ensures.lines ∙ ap (λ (ls : List Line). ls ++ c.into.result ∷ []) (went c)) in
+    ap (map bare) pushed ∙ bare_push (lines_of c.args.words.now (deal_ring c.args.n)) ss (record { op = c.args.said.op; told = c.args.said.answer }) c.into.result e c.into.ensures

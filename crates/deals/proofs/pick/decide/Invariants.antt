@@ -1,9 +1,0 @@
-use Rattle.std.proofs.Common.{ℕ, ◌<◌, true, get_or, None}
-use Rattle.deals.specs.Deals.{State}
-use Rattle.deals.specs.Promise.{can}
-use Rattle.deals.specs.Tables.{order_of}
-use Rattle.deals.specs.LineUps.{TablesHold, FindsFor, GraphTo}
-use Rattle.deals.proofs.pick.decide.Given as goal
-
-abbrev pub invariant-loop-i : goal.invariant-loop-i
-invariant-loop-i l = (s : State) → TablesHold can true l.room s → ((c : ℕ) → c < 32 → FindsFor can l.room s c (get_or l.found c None)) → GraphTo can l.graph s (order_of l.room) l.i
