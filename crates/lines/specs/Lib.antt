@@ -1,3 +1,4 @@
+pub mod Tags
 pub mod Lines
 pub mod Rings
 pub mod Changes

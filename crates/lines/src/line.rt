@@ -1,5 +1,6 @@
 // One line, as three words of a table: a tag and two words.
 ghost use Rattle.std.specs.Prelude.{◌≡◌, ℕ, ◌+◌, ◌*◌, ◌≤◌, [], ◌∷◌, length, ◌≢◌, slice_index};
+ghost use Rattle.lines.specs.Tags.{tag_by};
 ghost use Rattle.lines.specs.Lines.{line_at, line_of, tag_of, first_of, second_of};
 
 // A line of a deal, or a record of the queue (only `Wrote` and `Cleared` are records).
@@ -24,60 +25,73 @@ pub enum Line {
 
 const WORDS: usize = 3;
 
-// The tags, which the words of the room have in place of a type. Only the two conversions below know them.
-const IDLE: u64 = 0;
+// The kinds of lines, in the order of their numbers in the room.
+#[derive(Clone, Copy, PartialEq, Eq, Debug)]
+enum Tag {
+    Idle,
+    Wrote,
+    ClearedLast,
+    Cleared,
+    Stale,
+    Read,
+    ScannedLast,
+    Scanned,
+    Marked,
+}
 
-const WROTE: u64 = 1;
+// A number that no line has is read as idle.
+impl From<u64> for Tag {
+    ghost from_gives = { λ number tag. tag ≡ tag_by number };
 
-const CLEARED_LAST: u64 = 2;
-
-const CLEARED: u64 = 3;
-
-const STALE: u64 = 4;
-
-const READ: u64 = 5;
-
-const SCANNED_LAST: u64 = 6;
-
-const SCANNED: u64 = 7;
-
-const MARKED: u64 = 8;
-
-// A tag that no line has is read as idle.
-impl From<[u64; 3]> for Line {
-    ghost from_gives = { λ w l. l ≡ line_of (slice_index w 0) (slice_index w 1) (slice_index w 2) };
-
-    fn from(words: [u64; 3]) -> Line {
-        let [tag, a, b] = words;
-        match tag {
-            WROTE => Line::Wrote(a, b),
-            CLEARED_LAST => Line::Cleared(a, None),
-            CLEARED => Line::Cleared(a, Some(b)),
-            STALE => Line::Stale(a),
-            READ => Line::Read(a),
-            SCANNED_LAST => Line::Scanned(a, None),
-            SCANNED => Line::Scanned(a, Some(b)),
-            MARKED => Line::Marked,
-            _ => Line::Idle,
+    fn from(number: u64) -> Tag {
+        match number {
+            1 => Tag::Wrote,
+            2 => Tag::ClearedLast,
+            3 => Tag::Cleared,
+            4 => Tag::Stale,
+            5 => Tag::Read,
+            6 => Tag::ScannedLast,
+            7 => Tag::Scanned,
+            8 => Tag::Marked,
+            _ => Tag::Idle,
         }
     }
 }
 
-impl From<Line> for [u64; 3] {
+impl From<[u64; WORDS]> for Line {
+    ghost from_gives = { λ w l. l ≡ line_of (slice_index w 0) (slice_index w 1) (slice_index w 2) };
+
+    fn from([tag, a, b]: [u64; WORDS]) -> Line {
+        match Tag::from(tag) {
+            Tag::Wrote => Line::Wrote(a, b),
+            Tag::ClearedLast => Line::Cleared(a, None),
+            Tag::Cleared => Line::Cleared(a, Some(b)),
+            Tag::Stale => Line::Stale(a),
+            Tag::Read => Line::Read(a),
+            Tag::ScannedLast => Line::Scanned(a, None),
+            Tag::Scanned => Line::Scanned(a, Some(b)),
+            Tag::Marked => Line::Marked,
+            Tag::Idle => Line::Idle,
+        }
+    }
+}
+
+impl From<Line> for [u64; WORDS] {
     ghost from_gives = { λ l w. w ≡ tag_of l ∷ first_of l ∷ second_of l ∷ [] };
 
-    fn from(line: Line) -> [u64; 3] {
-        match line {
-            Line::Idle => [IDLE, 0, 0],
-            Line::Wrote(k, x) => [WROTE, k, x],
-            Line::Cleared(k, None) => [CLEARED_LAST, k, 0],
-            Line::Cleared(k, Some(s)) => [CLEARED, k, s],
-            Line::Stale(k) => [STALE, k, 0],
-            Line::Read(k) => [READ, k, 0],
-            Line::Scanned(k, None) => [SCANNED_LAST, k, 0],
-            Line::Scanned(k, Some(q)) => [SCANNED, k, q],
-            Line::Marked => [MARKED, 0, 0],
-        }
+    fn from(line: Line) -> [u64; WORDS] {
+        let (tag, a, b) = match line {
+            Line::Idle => (Tag::Idle, 0, 0),
+            Line::Wrote(k, x) => (Tag::Wrote, k, x),
+            Line::Cleared(k, None) => (Tag::ClearedLast, k, 0),
+            Line::Cleared(k, Some(s)) => (Tag::Cleared, k, s),
+            Line::Stale(k) => (Tag::Stale, k, 0),
+            Line::Read(k) => (Tag::Read, k, 0),
+            Line::Scanned(k, None) => (Tag::ScannedLast, k, 0),
+            Line::Scanned(k, Some(q)) => (Tag::Scanned, k, q),
+            Line::Marked => (Tag::Marked, 0, 0),
+        };
+        [tag as u64, a, b]
     }
 }
 
@@ -97,5 +111,5 @@ pub fn write_line(words: &mut [u64], p: usize, line: Line)
     ensures others { (q : ℕ) → (q ≢ p) → line_at words.new q ≡ line_at words.old q }
 {
     let at = WORDS * p;
-    words[at..at + WORDS].copy_from_slice(&<[u64; 3]>::from(line));
+    words[at..at + WORDS].copy_from_slice(&<[u64; WORDS]>::from(line));
 }
