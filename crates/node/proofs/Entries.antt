@@ -1,7 +1,7 @@
 -- One entry of a node changed, or taken out.
 use Rattle.std.proofs.Common.{◌≡◌, ℕ, zero, suc, ◌+◌, ◌<◌, ◌≤◌, List, [], ◌∷◌, length, get_or, take, drop, set, Some, None, Option, sym, refl, ap, ◌∙◌, ap₂, arith}
 use lib.Seq.{take-set-lt}
-use Rattle.std.specs.List.{zip, remove}
+use Rattle.std.specs.List.{zip}
 use Rattle.std.proofs.lemmas.List.{set-set, get_or-set_same, get_or-set_other, length-set, drop-set-add, drop-set-lt, take-set-le}
 use Rattle.node.specs.Node.{Contents, contents_of, count_of, level_of, keys_of, words_of, pairs_of, IsNode, Page, amended}
 use Rattle.node.proofs.Words.{holds, sized, pairs_length, keys_length, words_length}
@@ -73,12 +73,6 @@ pub amended_key : (j : ℕ) (es : List (ℕ × ℕ)) (k : ℕ) (e : ℕ × ℕ) 
 amended_key j es k e h z =
     let s : j + 1 ≡ suc j = omega arith in
     ap (λ (e : ℕ × ℕ). set es (j + 1) (k, e.1)) z ∙ ap (λ n. set es n (k, (get_or es n (0, 0)).1)) s ∙ set_two j es k (omega arith)
-
-removed_two : (j : ℕ) (es : List (ℕ × ℕ)) → suc j < length es → remove es (suc j) ≡ amended es j None
-removed_two j [] h = absurd (omega arith)
-removed_two zero (e ∷ []) h = absurd (omega arith)
-removed_two zero (e ∷ (f ∷ es)) h = refl
-removed_two (suc j) (e ∷ es) h = ap (λ r. e ∷ r) (removed_two j es (omega arith))
 
 -- how many are left
 pub amended_length : (j : ℕ) (es : List (ℕ × ℕ)) (o : Option ℕ) → suc j < length es → length es ≤ suc (length (amended es j o))

@@ -11,9 +11,6 @@ module _ (a k : ℕ) (xs ys : List ℕ) (fits : a + k ≤ length xs) (same : len
   pub get_d_below : (i d : ℕ) → i < a → get_or (put_mid a k xs ys) i d ≡ get_or xs i d
   get_d_below i d h = grind (arith, places)
 
-  pub get_d_above : (i d : ℕ) → a + k ≤ i → get_or (put_mid a k xs ys) i d ≡ get_or xs i d
-  get_d_above i d h = grind (arith, places)
-
   pub part_same : (m : ℕ) → m ≤ k → take m (drop a (put_mid a k xs ys)) ≡ take m ys
   part_same m h = same_lists _ _ (search (rules, places)) (λ i d l. grind (arith, places))
 

@@ -2,7 +2,7 @@
 use Rattle.std.proofs.Common.{◌≡◌, ℕ, zero, suc, ◌+◌, ◌<◌, ◌≤◌, List, [], ◌∷◌, length, get_or, take, drop, set, sym, refl, ap, ◌∙◌, arith}
 use borrow.Rule.Slice.PartMut.{put_mid}
 use Rattle.std.specs.List.{zip, insert, remove}
-use Rattle.std.proofs.lemmas.List.{take-take, length-set, length-take, length-drop, get_or-set_same, get_or-set_other}
+use Rattle.std.proofs.lemmas.List.{take-take, length-take, length-drop, get_or-set_same, get_or-set_other}
 use Rattle.node.specs.Node.{keys_of, words_of}
 use Rattle.node.proofs.Mid.{length_put_mid, get_d_below, part_same, part_below, part_above, part_set}
 
@@ -19,9 +19,6 @@ module _ (p a b : List ℕ) (m : ℕ) (lp : length p ≡ 512) (la : length a ≡
 
   second : length (put_mid 257 255 (put_mid 2 255 p a) b) ≡ 512
   second = length_put_mid 257 255 (put_mid 2 255 p a) b (omega (arith, first)) lb ∙ first
-
-  pub after_length : length (after p a b m) ≡ 512
-  after_length = length-set _ 0 m ∙ second
 
   pub after_count : get_or (after p a b m) 0 0 ≡ m
   after_count = get_or-set_same _ 0 m 0 (omega (arith, second))

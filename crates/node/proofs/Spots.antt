@@ -1,5 +1,5 @@
 -- What a search for a key among rising entries tells of them.
-use Rattle.std.proofs.Common.{◌≡◌, ℕ, suc, ◌+◌, ◌<◌, ◌≤◌, true, false, List, ◌∷◌, ◌++◌, length, get_or, take, drop, map, is_some, leb, Some, None, Option, Ok, Err, Result, sym, refl, ap, ◌∙◌, subst, inl, inr, arith}
+use Rattle.std.proofs.Common.{◌≡◌, ℕ, suc, ◌+◌, ◌<◌, ◌≤◌, true, false, List, ◌∷◌, ◌++◌, length, get_or, take, drop, map, is_some, leb, Some, Ok, Err, Result, sym, ap, ◌∙◌, subst, inl, inr, arith}
 use Rattle.std.specs.List.{slice_get}
 use Rattle.std.specs.List.Sorted.{IsPartitionPoint, IsPartitionedBy, IsBinarySearchResult}
 use Rattle.std.specs.Ordering.{nat_cmp}
@@ -17,10 +17,6 @@ put_here k x e es z = rw (le-ltb e.0 k (omega arith), eq-eqb e.0 k z)
 
 drop_here : (k : ℕ) (e : ℕ × ℕ) (es : List (ℕ × ℕ)) → e.0 ≡ k → drop_in k (e ∷ es) ≡ es
 drop_here k e es z = rw (eq-eqb e.0 k z)
-
-nothing : (o : Option ℕ) → is_some o ≡ false → o ≡ None
-nothing None h = refl
-nothing (Some x) h = absurd (cc)
 
 -- i keys of es are below k
 module _ (es : List (ℕ × ℕ)) (k i : ℕ) (up : Rising es) (f : Lower es k i) where
@@ -131,10 +127,6 @@ module _ (es : List (ℕ × ℕ)) (k : ℕ) (up : Rising es) where
       let s : j ≡ i = cc in
       ap (λ (e : ℕ × ℕ). Some e.1) (y ∙ ap (λ i. get_or es i (0, 0)) (sym s)) ∙ sym (find_there es up.0 up.1.0 k j up.1.1 (lower_here es k up j f.here f.key) f.here f.key)
   got (Err j) i e m z y = absurd (cc)
-
-  pub got_none : (r : Result ℕ ℕ) → Spot es k r → result_ok r ≡ None → None ≡ find k es
-  got_none (Ok j) f z = absurd (cc)
-  got_none (Err j) m z = sym (nothing (find k es) m.was)
 
   pub after_is : (i : ℕ) → Upper es k i → slice_get es i ≡ above k es
   after_is i f = above_is es up.0 up.1.0 k i up.1.1 f

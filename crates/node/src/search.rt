@@ -6,7 +6,7 @@ ghost use Rattle.node.specs.Node.{Rising, Lower, Upper, Reaches, Leads, Spot, pl
 use crate::{Entry, Node};
 
 // A way down from an inner node: the place of an entry, its child, and the child to the right of that.
-#[derive(Clone, Copy)]
+#[derive(Clone, Copy, Debug, PartialEq, Eq)]
 pub struct Way {
     pub at: usize,
     pub down: u64,

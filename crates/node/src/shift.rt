@@ -1,4 +1,4 @@
-// Rows of words, of which the first n count.
+// Rows of words, of which the first n count: parts of a page, in which no list of the library's can stand.
 ghost use Rattle.std.specs.Prelude.{◌≡◌, ℕ, ◌+◌, ◌-◌, ◌<◌, ◌≤◌, ◌++◌, length, take, drop};
 ghost use Rattle.std.specs.List.{insert, remove};
 // Puts x at i among the first n words of the row, moving the later ones up by one.

@@ -9,7 +9,7 @@ use tree::PageStore;
 
 mod mem_tree;
 
-pub use mem_tree::MemTree;
+pub use mem_tree::{MemTree, set_up};
 pub use tree::TreeRoot;
 
 // The marks: how many pages are free, then a mark for each page, 1 where it is taken. They are a lent part, which has no types of its own.

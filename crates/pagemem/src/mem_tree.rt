@@ -2,12 +2,24 @@
 ghost use Rattle.std.specs.Prelude.{◌≡◌, ℕ, ◌+◌, ◌-◌, ◌*◌, ◌<◌, ◌≤◌, [], not, length, is_some, MatchOption, slice_index};
 ghost use Rattle.node.specs.Pairs.{find, above, put_in, drop_in};
 ghost use Rattle.pages.specs.Pages.{page_words};
-ghost use Rattle.pagemem.specs.Memory.{Good};
+ghost use Rattle.pagemem.specs.Memory.{Good, pairs_in};
 ghost use Rattle.pagemem.specs.MemTree.{IsUsable, pairs, free_pages, StandsIn};
 
 use crate::{FIRST, FREE, PageMem};
 use node::Entry;
 use tree::TreeRoot;
+
+// Marks every page free: a store of as many pages as there are marks but the first, with an empty tree.
+pub fn set_up(marks: &mut [u64], words: &[u64]) -> TreeRoot
+    requires { (0 < length marks.old) × ((length marks.old ≤ 4294967297) × (page_words * (length marks.old - 1) ≤ length words.now)) }
+    ensures good { Good marks.new words.now result }
+    ensures empty { pairs_in words.now result ≡ [] }
+    ensures room { slice_index marks.new 0 ≡ length marks.old - 1 }
+{
+    marks.fill(0);
+    marks[FREE] = (marks.len() - FIRST) as u64;
+    TreeRoot { page: 0, height: 0 }
+}
 
 // A tree with the marks and the words that it stands in. That it is usable stands in the clauses: a struct with lent parts that change has no invariant.
 #[derive(Drop)]
@@ -18,24 +30,6 @@ pub struct MemTree<'a, 'b> {
 }
 
 impl<'a, 'b> MemTree<'a, 'b> {
-    // Marks every page free: a store of as many pages as there are marks but the first, with an empty tree.
-    pub fn set_up(marks: &'a mut [u64], words: &'b mut [u64]) -> MemTree<'a, 'b>
-        requires { (0 < length marks.old) × ((length marks.old ≤ 4294967297) × (page_words * (length marks.old - 1) ≤ length words.old)) }
-        ensures usable { IsUsable result }
-        ensures empty { pairs result ≡ [] }
-        ensures room { free_pages result ≡ length marks.old - 1 }
-        ensures lends_marks { result.marks.ghost_name ≡ marks.entry.ghost_name }
-        ensures lends_words { result.words.ghost_name ≡ words.entry.ghost_name }
-    {
-        marks.fill(0);
-        marks[FREE] = (marks.len() - FIRST) as u64;
-        MemTree {
-            marks,
-            words,
-            root: TreeRoot { page: 0, height: 0 },
-        }
-    }
-
     // The tree that stands in the slices at the root.
     pub fn open(marks: &'a mut [u64], words: &'b mut [u64], root: TreeRoot) -> MemTree<'a, 'b>
         requires { Good marks.old words.old root }
@@ -60,6 +54,8 @@ impl<'a, 'b> MemTree<'a, 'b> {
     {
         self.marks[FREE]
     }
+
+    // Each call below makes the store of pages anew: one that a function made of both lent parts would not be known to give them back.
 
     // The word at k.
     pub fn get(&mut self, k: u64) -> Option<u64>
@@ -97,7 +93,7 @@ impl<'a, 'b> MemTree<'a, 'b> {
     pub fn put(&mut self, k: u64, x: u64) -> Option<bool>
         requires { IsUsable self.old }
         ensures usable { IsUsable self.new }
-        ensures done { MatchOption result ((free_pages self.old ≤ self.old.root.height) × (pairs self.new ≡ pairs self.old)) (λ new. (pairs self.new ≡ put_in k x (pairs self.old)) × (new ≡ not (is_some (find k (pairs self.old))))) }
+        ensures done { MatchOption result ((free_pages self.old ≤ self.old.root.height) × (self.new.root ≡ self.old.root) × (pairs self.new ≡ pairs self.old)) (λ new. (pairs self.new ≡ put_in k x (pairs self.old)) × (new ≡ not (is_some (find k (pairs self.old))))) }
         ensures lends_marks { self.new.marks.ghost_name ≡ self.old.marks.ghost_name }
         ensures lends_words { self.new.words.ghost_name ≡ self.old.words.ghost_name }
     {

@@ -1,12 +1,12 @@
 -- A leaf that lost a pair, two neighbours that were joined, and the node above them.
-use Rattle.std.proofs.Common.{◌≡◌, ℕ, suc, ◌+◌, ◌-◌, ◌≤◌, true, ltb, List, ◌++◌, length, get_or, Some, None, Option, sym, refl, ap, ◌∙◌, subst, ap₂, inl, inr, arith}
+use Rattle.std.proofs.Common.{◌≡◌, ℕ, suc, ◌+◌, ◌-◌, ◌≤◌, true, ltb, List, ◌++◌, length, get_or, Some, None, Option, sym, ap, ◌∙◌, subst, ap₂, inl, inr, arith}
 use Rattle.std.specs.List.{remove}
-use Rattle.std.proofs.lemmas.Bool.{lt-ltb, le-ltb, ne_eqb, cases_lt}
+use Rattle.std.proofs.lemmas.Bool.{lt-ltb, le-ltb, cases_lt}
 use Rattle.node.specs.Pairs.{drop_in}
 use Rattle.node.specs.Node.{level_of, pairs_of, Page, Shared, Contents, contents_of, Found, Beside, Neighbours, Shares, key_at, beside, amended}
 use Rattle.tree.specs.State.{PageState, Still, Wrote, Freed, Spends}
 use Rattle.tree.specs.Grow.{Holds}
-use Rattle.tree.specs.Shrink.{Kept, Cut, Was, Near, Paired, Mends, Mended, gone}
+use Rattle.tree.specs.Shrink.{Kept, Cut, Was, Near, Paired, Mends, Mended}
 use Rattle.node.proofs.Words.{pairs_length}
 use Rattle.node.proofs.Entries.{amended_length}
 use Rattle.node.proofs.Shared.{neighbours, shared}
@@ -65,9 +65,6 @@ module _ (d d1 d2 d3 e : PageState) (l a c : ℕ) (x y : Contents) (x' : List �
   first_spent =
       let z : d2.dirty a ≡ d.dirty a = ap (λ (t : ℕ → ℕ). t a) (s2.dirty ∙ s1.dirty) in
       after_still 1 (1 - d.dirty a) d d1 d3 s1 (after_still 1 (1 - d.dirty a) d1 d2 d3 s2 (spends_then (1 - d2.dirty a) 0 (1 - d.dirty a) d2 d3 d3 (omega arith) w.spends (record { dirty = λ q. omega arith; spare = omega arith })))
-
-  pub spare_left : 1 ≤ d.spare → 1 ≤ d3.spare + d3.dirty c
-  spare_left h = let f = first_spent in omega (arith, near.marked, f.spare, f.dirty c)
 
   both_spent : Spends (1 - d3.dirty c) d3 e → Spends 1 d e
   both_spent z = let f = first_spent in spends_then (1 - d.dirty a) (1 - d3.dirty c) 1 d d3 e (omega (arith, near.marked, f.dirty c)) f z
@@ -139,12 +136,3 @@ mend_all d d1 d2 e l p j a0 c0 n o v v' b' is s m ae ce pr is' pg ne w =
       marked = w.marked;
       spends = after_still 1 2 d d1 e s (spends_then 1 1 2 d1 d2 e (omega arith) pr'.spends (one_write p b' d2 e w));
     }
-
-gone_not : (c q : ℕ) (o : Option ℕ) → (q ≡ c → ⊥) → gone c o q ≡ 0
-gone_not c q None ne = rw (ne_eqb q c ne)
-gone_not c q (Some k) ne = refl
-
-pub mend_here : (d d1 d2 : PageState) (l p j a c : ℕ) (o : Option ℕ) → Still 1 d d1 → Mends d l p j → a ≡ (get_or (pairs_of (d.page p)) j (0, 0)).1 → c ≡ (get_or (pairs_of (d.page p)) (j + 1) (0, 0)).1 → Paired 2 d1 d2 l a c o → 1 ≤ d2.taken p
-mend_here d d1 d2 l p j a c o s m ae ce pr =
-    let nr = near_read d d1 l p j a c s m ae ce in
-    omega (arith, pr.taken p, gone_not c p o (λ z. m.not' (sym nr.0 ∙ sym z)), ap (λ (t : ℕ → ℕ). t p) s.taken, m.here)

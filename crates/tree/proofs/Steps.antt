@@ -1,8 +1,8 @@
 -- One node: what a write of its page, or of it and a new one, leaves.
-use Rattle.std.proofs.Common.{◌≡◌, ℕ, ◌+◌, ◌≤◌, List, set, Some, None, Option, sym, ap, ◌∙◌, subst, arith}
+use Rattle.std.proofs.Common.{◌≡◌, ℕ, ◌+◌, ◌≤◌, List, Some, Option, sym, ap, ◌∙◌, subst, arith}
 use Rattle.std.specs.List.{insert}
 use Rattle.node.specs.Pairs.{put_in}
-use Rattle.node.specs.Node.{Contents, contents_of, level_of, pairs_of, Shared, Found, Missing}
+use Rattle.node.specs.Node.{Contents, contents_of, level_of, pairs_of, Shared, Missing}
 use Rattle.tree.specs.State.{PageState, Still, Given, Wrote}
 use Rattle.tree.specs.Grow.{Entered, Holds, Fresh}
 use Rattle.tree.proofs.Spent.{spends_then, spends_given, after_still, one_write}
@@ -39,11 +39,6 @@ entered_on a n n' d d1 e l l' p es es' o s le ee h t =
       left = omega (arith, t.left, s.left);
       spends = after_still a 2 d d1 e s t.spends;
     }
-
-pub leaf_change : (d d1 e : PageState) (p k x i : ℕ) → Still 1 d d1 → level_of (d.page p) ≡ 0 → Found (pairs_of (d.page p)) k i →
-    Entered 1 d1 e (level_of (d1.page p)) p (set (pairs_of (d1.page p)) i (k, x)) None → Entered 3 d e 0 p (put_in k x (pairs_of (d.page p))) None
-leaf_change d d1 e p k x i s z f = entered_on 1 1 3 d d1 e (level_of (d1.page p)) 0 p (set (pairs_of (d1.page p)) i (k, x)) (put_in k x (pairs_of (d.page p))) None s
-    (ap (λ (v : ℕ → List ℕ). level_of (v p)) s.page ∙ z) (ap (λ (v : ℕ → List ℕ). set (pairs_of (v p)) i (k, x)) s.page ∙ sym (f.puts x)) (omega arith)
 
 pub leaf_enter : (d d1 e : PageState) (p k x i : ℕ) (o : Option (ℕ × ℕ)) → Still 1 d d1 → level_of (d.page p) ≡ 0 → Missing (pairs_of (d.page p)) k i →
     Entered 2 d1 e (level_of (d1.page p)) p (insert (pairs_of (d1.page p)) i (k, x)) o → Entered 3 d e 0 p (put_in k x (pairs_of (d.page p))) o

@@ -47,8 +47,8 @@ fn change<S: PageStore>(s: &mut S, p: u64, i: usize, entry: Entry) -> Result<(),
     s.write(p, node.words())
 }
 
-// What a put did to a part of the tree: whether the key is new, and the page that it now shares its entries with.
-#[derive(Clone, Copy)]
+// What a put did to a part of the tree: whether the key is new, and the page that it now shares its entries with. Neither tells the other.
+#[derive(Clone, Copy, Debug, PartialEq, Eq)]
 struct Stored {
     new: bool,
     more: Option<Entry>,

@@ -46,6 +46,8 @@ pub trait PageStore {
         ensures passed { Passes onto tie (is_ok result) self.old self.new };
 }
 
+// What a store passes on, Whole and Passes, stands with each function: it speaks of a store before and after a call, which no type of a value can keep.
+
 // The node of page p.
 pub fn read_node<S: PageStore>(s: &mut S, p: u64) -> Result<Node, Gone>
     requires asks { (0 < (S.state s.old).left) × ((1 ≤ (S.state s.old).taken p) × (IsNode ((S.state s.old).page p))) }

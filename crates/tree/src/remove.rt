@@ -48,8 +48,8 @@ fn mend<S: PageStore>(s: &mut S, p: u64, j: usize, l: u64) -> Result<bool, Gone>
     Ok(node.len() < LEAST)
 }
 
-// What a drop did to a part of the tree: whether the key was there, and whether the part's root is thin now.
-#[derive(Clone, Copy)]
+// What a drop did to a part of the tree: whether the key was there, and whether the part's root is thin now. Two flags say it as shortly as an enum, which each reader would take apart again.
+#[derive(Clone, Copy, Debug, PartialEq, Eq)]
 struct Lost {
     was: bool,
     thin: bool,

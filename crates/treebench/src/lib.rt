@@ -8,7 +8,7 @@ ghost use Rattle.pages.specs.Pages.{page_words};
 ghost use Rattle.pagemem.specs.Memory.{Good, pairs_in};
 ghost use Rattle.treebench.specs.Bench.{word_or};
 
-use pagemem::{MemTree, TreeRoot};
+use pagemem::{MemTree, TreeRoot, set_up};
 
 // What tree_put answers where too few pages are free. C has no Option: a number tells it.
 const REFUSED: u64 = 2;
@@ -19,7 +19,7 @@ pub extern "C" fn tree_set_up(marks: &mut [u64], words: &mut [u64], root: &mut T
     requires { (0 < length marks.old) × ((length marks.old ≤ 4294967297) × (page_words * (length marks.old - 1) ≤ length words.old)) }
     ensures { Good marks.new words.new root.new }
 {
-    *root = MemTree::set_up(marks, words).root();
+    *root = set_up(marks, words);
 }
 
 // The word at k, or the largest word if there is none.

@@ -4,7 +4,7 @@
 ghost use Rattle.std.specs.Prelude.{◌≡◌, ℕ, ◌+◌, ◌-◌, ◌*◌, ◌<◌, ◌≤◌, length, IfSome};
 ghost use Rattle.treeplay.specs.Played.{Ready, keys};
 
-use pagemem::MemTree;
+use pagemem::{MemTree, set_up};
 use pages::PAGE_WORDS;
 use std::alloc::Global;
 use std::io;
@@ -21,21 +21,21 @@ const LOOK_EACH: usize = 8;
 const TURNS: usize = 50000;
 
 // The order in which a row takes the keys.
-#[derive(Clone, Copy)]
+#[derive(Clone, Copy, Debug, PartialEq, Eq)]
 enum Order {
     Rising,
     Falling,
 }
 
 // What a row does at each key.
-#[derive(Clone, Copy)]
+#[derive(Clone, Copy, Debug, PartialEq, Eq)]
 enum Act {
     Put,
     Drop,
 }
 
 // A row of the play: turns at random keys, of which about a share of a hundred are puts, or one act at each key.
-#[derive(Clone, Copy)]
+#[derive(Clone, Copy, Debug, PartialEq, Eq)]
 enum Row {
     AtRandom(u64),
     EachKey(Act, Order),
@@ -195,7 +195,8 @@ fn main(rt: HostRuntime) -> io::Result<()> {
     let mut marks = vec![in alloc; 0; PAGES + 1]?;
     let mut words = vec![in alloc; 0; PAGES * PAGE_WORDS]?;
     let mut model = vec![in alloc; 0; KEYS]?;
-    let tree = MemTree::set_up(marks.as_mut_slice(), words.as_mut_slice());
+    let root = set_up(marks.as_mut_slice(), words.as_slice());
+    let tree = MemTree::open(marks.as_mut_slice(), words.as_mut_slice(), root);
     let mut game = Game {
         tree,
         model: model.as_mut_slice(),

@@ -1,10 +1,10 @@
 use Rattle.std.proofs.Common.{◌≡◌, ℕ, ◌<◌, length, get_or, replicate, ap, ◌∙◌, arith, rules}
 use Rattle.std.proofs.lemmas.List.{get_or-replicate}
 use Rattle.pagemem.proofs.Marks.{clear_good, clear_empty}
-use Rattle.pagemem.proofs.mem_tree.MemTree.set_up.Goals as goal
+use Rattle.pagemem.proofs.mem_tree.set_up.Goals as goal
 
-pub returns-clause-usable : goal.returns-clause-usable
-returns-clause-usable c =
+pub returns-clause-good : goal.returns-clause-good
+returns-clause-good c =
     let ms = c.fill.new.self in
     let n : length ms ≡ length c.args.marks.now = c.fill.ensures.len in
     let e : ms ≡ replicate (length c.args.marks.now) 0 = c.fill.ensures.after (λ y h. search rules) in
