@@ -58,7 +58,7 @@ pub struct NoSuchClerk(pub u32);
 impl TryFrom<u32> for Clerk {
     type Error = NoSuchClerk;
 
-    ghost try_from_gives = { λ n r. MatchResult r (λ c. c ≡ n) (λ e. (e.0 ≡ n) × (32 ≤ n)) };
+    ghost try_from_gives = { λ n r. MatchResult r (λ c. (c ≡ n) × (n < 32)) (λ e. (e.0 ≡ n) × (32 ≤ n)) };
 
     fn try_from(number: u32) -> Result<Clerk, NoSuchClerk> {
         if number < CLERKS as u32 {
