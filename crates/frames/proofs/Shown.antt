@@ -1,11 +1,11 @@
 -- What each step makes of the pages that are shown.
-use Rattle.std.proofs.Common.{◌≡◌, ℕ, zero, suc, ◌+◌, ◌-◌, ◌<◌, true, false, cond, eqb, ◌≢◌, List, length, get_or, set, replicate, Some, None, Option, unwrap_or, sym, refl, ap, ◌∙◌, ⊎_elim, arith}
+use Rattle.std.proofs.Common.{◌≡◌, ℕ, ◌+◌, ◌-◌, ◌<◌, true, false, cond, eqb, ◌≢◌, List, length, get_or, set, replicate, Some, None, Option, unwrap_or, sym, refl, ap, ◌∙◌, ⊎_elim, arith}
 use mathlib.Core.Path.{fun_ext}
 use Rattle.std.proofs.lemmas.List.{get_or-set_same, get_or-set_other, get_or-replicate, length-set}
 use Rattle.std.proofs.lemmas.Bool.{cases_eq, eq-eqb, ne_eqb}
 use Rattle.std.specs.Option.{option_map}
 use Rattle.frames.specs.Layout.{Cache, cleared, frame_in, placed}
-use Rattle.frames.specs.Frames.{Table, Idle, Clean, InPlace, at, over, page_in, mark_in, entry_in, slot_of, shown_by, batch_page, batch_words, fill, list, enter, write, settle}
+use Rattle.frames.specs.Frames.{Table, Idle, Clean, InPlace, at, page_in, mark_in, entry_in, slot_of, shown_by, batch_page, fill, list, enter, write, settle}
 use Rattle.frames.proofs.Slots.{Rows, cases_slot, frame_same, frame_other, slot_first, slot_absent, slot_some, slot_none}
 
 module _ {A : Type 0} (p : ℕ) (x : A) (f : ℕ → A) where
@@ -217,23 +217,6 @@ module _ (c : Cache) (t : Table c) (r : Rows c) (s d : ℕ → List ℕ) (put : 
       (λ (a : (j : ℕ) × (slot_of c q ≡ Some j)). shown_frame (settle c) d q a.0 a.1 ∙ sym (shown_frame c s q a.0 a.1))
       (cases_slot (slot_of c q)))
 
--- pages written one after the other
-module _ (p : ℕ → ℕ) (w : ℕ → List ℕ) (s : ℕ → List ℕ) where
-  pub over_rest : (n q : ℕ) → ((k : ℕ) → k < n → q ≢ p k) → over n p w s q ≡ s q
-  unfolding over
-  over_rest zero q f = refl
-  over_rest (suc n) q f = at_other (p n) (w n) (over n p w s) q (f n (omega arith)) ∙ over_rest n q (λ k h. f k (omega arith))
-
-  pub over_put : (n k : ℕ) → k < n → ((i j : ℕ) → i < n → j < n → p i ≡ p j → i ≡ j) → over n p w s (p k) ≡ w k
-  unfolding over
-  over_put zero k h f = absurd (omega arith)
-  over_put (suc n) k h f = ⊎_elim
-      (λ (e : k ≡ n). at_same (p n) (w n) (over n p w s) (p k) (ap p e) ∙ ap w (sym e))
-      (λ (ne : k ≢ n).
-      at_other (p n) (w n) (over n p w s) (p k) (λ e. ne (f k n h (omega arith) e))
-      ∙ over_put n k (omega arith) (λ i j a b. f i j (omega arith) (omega arith)))
-      (cases_eq k n)
-
 -- no page stands twice in the batch
 module _ (c : Cache) (t : Table c) where
   pub batch_once : (i j : ℕ) → i < c.count → j < c.count → batch_page c i ≡ batch_page c j → i ≡ j
@@ -242,9 +225,3 @@ module _ (c : Cache) (t : Table c) where
       let b = t.entered j l in
       let u = t.used (entry_in c i) a.0 (omega (arith, a.1)) in
       omega (arith, a.1, b.1, ap (mark_in c) (t.once (entry_in c i) (entry_in c j) a.0 b.0 u e))
-
-  pub over_in_place : (s : ℕ → List ℕ) → InPlace c s (over c.count (batch_page c) (batch_words c) s)
-  over_in_place s = record {
-    put = λ k h. over_put (batch_page c) (batch_words c) s c.count k h batch_once;
-    rest = λ q f. over_rest (batch_page c) (batch_words c) s c.count q f;
-  }

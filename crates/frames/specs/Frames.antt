@@ -1,5 +1,5 @@
 -- What a cache means, and what each step makes of it.
-use Rattle.std.specs.Prelude.{◌≡◌, ℕ, zero, suc, ◌+◌, ◌-◌, ◌%◌, ◌<◌, ◌≤◌, Bool, false, cond, not, List, [], ◌∷◌, map, take, replicate, Some, None, sum, count_by, Option, MatchOption, ◌==◌, ◌≢◌, slice_index, slice_set}
+use Rattle.std.specs.Prelude.{◌≡◌, ℕ, suc, ◌+◌, ◌-◌, ◌%◌, ◌<◌, ◌≤◌, Bool, false, cond, not, List, [], ◌∷◌, map, take, replicate, Some, None, sum, count_by, Option, MatchOption, ◌==◌, ◌≢◌, slice_index, slice_set}
 use Rattle.std.specs.Option.{option_map, unwrap_or}
 use Rattle.frames.specs.Layout.{Cache, Sized, cache_of, frame_in, placed, with_frames, with_pages, with_marks, with_pins, with_entries, with_count, with_hand}
 
@@ -115,11 +115,6 @@ settle c = with_count (with_marks c (replicate 120 0)) 0
 pub record InPlace (c : Cache) (s t : ℕ → List ℕ) : Type 0 where
   pub put : (k : ℕ) → k < c.count → t (batch_page c k) ≡ batch_words c k
   pub rest : (q : ℕ) → ((k : ℕ) → k < c.count → q ≢ batch_page c k) → t q ≡ s q
-
--- s with the first n pages of a batch written, one after the other
-unfoldable pub over : ℕ → (ℕ → ℕ) → (ℕ → List ℕ) → (ℕ → List ℕ) → ℕ → List ℕ
-over zero p w s = s
-over (suc n) p w s = at (p n) (w n) (over n p w s)
 
 -- the frame that leaves: going round from the hand, the first that is idle
 pub record Leaves (c : Cache) (i : ℕ) : Type 0 where

@@ -31,7 +31,7 @@ const HAND: usize = COUNT + 1;
 
 /// What is noted of each frame: the page that stands in it, 0 where it is free; whether it is changed, 0 or its place in the batch and
 /// one; and how often it is pinned.
-#[derive(Clone, Copy)]
+#[derive(Clone, Copy, Debug, PartialEq, Eq)]
 pub enum Column {
     Pages,
     Marks,

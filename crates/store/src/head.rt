@@ -6,7 +6,7 @@ use std::marker::Model;
 
 /// The tree's root page, its height and number of pairs, the top of the free list, and how many data pages were ever used. An empty free
 /// list has 0 for its top, as the last page of one has for the page below it.
-#[derive(Clone, Copy)]
+#[derive(Clone, Copy, Debug, PartialEq, Eq)]
 pub struct Root {
     pub page: u64,
     pub height: u64,
@@ -15,7 +15,7 @@ pub struct Root {
     pub used: u64,
 }
 
-#[derive(Clone, Copy)]
+#[derive(Clone, Copy, Debug, PartialEq, Eq)]
 pub enum Record {
     Put { key: u64, word: u64 },
     Drop { key: u64 },
@@ -58,7 +58,7 @@ const THIS_FORMAT: u64 = 1;
 // Where the regions of slots begin, and how many slots each has.
 const SLOTS: u64 = 1;
 
-const BATCH: u64 = 64;
+const BATCH: u64 = frames::BATCH as u64;
 
 // Where the ring begins, and how many pages it has.
 const RING: u64 = 129;
@@ -276,6 +276,7 @@ impl<'a> HeadPageMut<'a> {
         head[COUNT] = n + 1;
     }
 
+    // Word by word, since each has a name in the layout; an array of five would hide which is which.
     fn put_root(&mut self, root: Root)
         ensures head { head_in self.new ≡ rooted root (head_in self.old) }
         ensures named { SameHeadLoan self.old self.new }

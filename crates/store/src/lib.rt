@@ -22,6 +22,9 @@ pub use shown::write_page;
 /// fresh: pages of the ring were written since the last sync. imaged: the changed frames stand in the other region,
 /// and lasted: a sync came since. root: the tree's, as the frames show it. worked: how many records at the queue's
 /// front are worked into the frames and not yet off the queue.
+///
+/// Three flags and not one of several states: a sync makes the ring's pages and the images last alike, and it sets both flags whether or
+/// not images stand.
 #[derive(Drop)]
 pub struct Store {
     pub fresh: bool,

@@ -1,4 +1,6 @@
 // What the lent part is made of: the frames, the next head, a page to read into.
+//
+// Until it's opened a part is any words. So that its frames are in order is asked for where it's needed, and isn't a part of its type.
 ghost use Rattle.std.specs.Prelude.{◌≡◌, ◌<◌, ◌≤◌, length};
 ghost use Rattle.frames.specs.Frames.{Sound as Framed};
 ghost use Rattle.store.specs.Head.{joined, turned, stamped};
@@ -49,6 +51,8 @@ pub fn scratch(part: &Part) -> &[u64]
 {
     &part[SCRATCH..]
 }
+
+// Each of the next three says what one step makes of the next head; a closure for the step would hide just that.
 
 // A record joins the next head.
 pub(crate) fn join_next(part: &mut Part, item: Record)
