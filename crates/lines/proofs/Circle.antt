@@ -12,6 +12,9 @@ use Rattle.lines.specs.Rings.{place, lines_of}
 abbrev pub ring : ℕ → ℕ → ℕ → Ring
 ring c s n = record { cap = c; start = s; count = n }
 
+pub ring_is : (r : Ring) (c s n : ℕ) → r.cap ≡ c → r.start ≡ s → r.count ≡ n → r ≡ ring c s n
+ring_is r c s n p q e = ap (λ x. ring x r.start r.count) p ∙ ap (λ x. ring c x r.count) q ∙ ap (λ x. ring c s x) e
+
 pub place_low : (r : Ring) (i : ℕ) → r.start + i < r.cap → place r i ≡ r.start + i
 unfolding place
 place_low r i h = rw (lt-ltb (r.start + i) r.cap h)
@@ -23,9 +26,6 @@ place_high r i h = rw (le-ltb (r.start + i) r.cap h)
 -- one of the two, with what is known
 place_cases : (r : Ring) (i : ℕ) → ((r.start + i < r.cap) × (place r i ≡ r.start + i)) ⊎ ((r.cap ≤ r.start + i) × (place r i ≡ r.start + i - r.cap))
 place_cases r i = elim (cases_lt (r.start + i) r.cap) [ inl h ↦ inl (h, place_low r i h) | inr h ↦ inr (h, place_high r i h) ]
-
-pub place_within : (r : Ring) (i : ℕ) → r.start < r.cap → i < r.cap → place r i < r.cap
-place_within r i s h = elim (place_cases r i) [ inl p ↦ omega arith | inr p ↦ omega arith ]
 
 place_apart : (r : Ring) (i j : ℕ) → r.start < r.cap → i < r.cap → j < r.cap → (j ≡ i → ⊥) → place r j ≡ place r i → ⊥
 place_apart r i j s h g d e =

@@ -10,6 +10,16 @@ abbrev pub within : ℕ → ℕ → Option ℕ → Bool
 within k j None = nat_lt j k
 within k j (Some l) = nat_lt j k && nat_le k l
 
+-- the key that a line writes, if it does: what was gone back over still counts
+abbrev pub written : Line → Option ℕ
+written Idle = None
+written (Wrote q x) = Some q
+written (Cleared q s) = Some q
+written (Stale q) = Some q
+written (Read q) = None
+written (Scanned q f) = None
+written Marked = None
+
 abbrev pub writes_key : ℕ → Line → Bool
 writes_key k Idle = false
 writes_key k (Wrote q x) = k == q

@@ -4,18 +4,20 @@ ghost use Rattle.locks.specs.Sets.{is_in, some_of};
 ghost use Rattle.locks.specs.Graphs.{waits_in, spread, reached, ring_by, counts_by};
 ghost use Rattle.locks.specs.Chosen.{Chosen};
 
-use crate::set::{CLERKS, ClerkSet};
+use crate::set::ClerkSet;
+use clerk::{CLERKS, Clerk};
 
 #[derive(Drop)]
 pub struct WaitGraph {
-    sets: [ClerkSet; 32],
+    sets: [ClerkSet; CLERKS],
 }
 
 // Who gets on, at which place of the order; by a clash, if it is on a ring.
-#[derive(Clone, Copy)]
+// Either way there are a place and a clerk, so the clash is a fact of its own beside them.
+#[derive(Clone, Copy, PartialEq, Eq, Debug)]
 pub struct Pick {
     pub place: usize,
-    pub who: u32,
+    pub who: Clerk,
     pub clash: bool,
 }
 
@@ -25,24 +27,22 @@ impl WaitGraph {
         ensures { (d e : ℕ) → waits_in result d e ≡ false }
     {
         WaitGraph {
-            sets: [ClerkSet::none(); 32],
+            sets: [ClerkSet::none(); CLERKS],
         }
     }
 
-    pub fn waits_of(&self, clerk: u32) -> ClerkSet
-        requires { clerk < 32 }
+    pub fn waits_of(&self, clerk: Clerk) -> ClerkSet
         ensures { (e : ℕ) → is_in result e ≡ waits_in self.now clerk e }
     {
-        self.sets[clerk as usize]
+        self.sets[clerk.index()]
     }
 
     // From now on the clerk waits for these.
-    pub fn put(&mut self, clerk: u32, set: ClerkSet)
-        requires { clerk < 32 }
+    pub fn put(&mut self, clerk: Clerk, set: ClerkSet)
         ensures put { (e : ℕ) → waits_in self.new clerk e ≡ is_in set e }
         ensures others { (d e : ℕ) → (d ≢ clerk) → waits_in self.new d e ≡ waits_in self.old d e }
     {
-        self.sets[clerk as usize] = set;
+        self.sets[clerk.index()] = set;
     }
 
     // The set, and all for whom one of it waits.
@@ -50,9 +50,9 @@ impl WaitGraph {
         ensures { (e : ℕ) → is_in result e ≡ spread (waits_in self.now) (is_in set) e }
     {
         let mut all = set;
-        for d in 0..CLERKS {
-            if set.contains(d) {
-                all = all.joined(self.waits_of(d));
+        for (d, waits) in self.sets.iter().enumerate() {
+            if set.contains(Clerk::new(d as u32)) {
+                all = all.joined(*waits);
             }
         }
         all
@@ -63,46 +63,43 @@ impl WaitGraph {
         ensures { is_in result ≡ reached 32 (waits_in self.now) (is_in set) }
     {
         let mut all = set;
-        for i in 0..CLERKS {
+        for _ in 0..CLERKS {
             all = self.further(all);
         }
         all
     }
 
     // Does the clerk wait, by way of any others, for itself.
-    pub fn on_ring(&self, clerk: u32) -> bool
-        requires { clerk < 32 }
+    pub fn on_ring(&self, clerk: Clerk) -> bool
         ensures { result ≡ ring_by (waits_in self.now) clerk }
     {
         self.reach(self.waits_of(clerk)).contains(clerk)
     }
 
     // Does the clerk wait for nobody.
-    pub fn is_free(&self, clerk: u32) -> bool
-        requires { clerk < 32 }
+    pub fn is_free(&self, clerk: Clerk) -> bool
         ensures { result ≡ not (some_of 32 (waits_in self.now clerk)) }
     {
         self.waits_of(clerk).is_empty()
     }
 
     // Does it get on: is it free, or on a ring.
-    pub fn counts(&self, clerk: u32) -> bool
-        requires { clerk < 32 }
+    pub fn counts(&self, clerk: Clerk) -> bool
         ensures { result ≡ counts_by (waits_in self.now) clerk }
     {
         self.is_free(clerk) || self.on_ring(clerk)
     }
 
-    // The first in the order who counts.
+    // The first in the order who counts. The order has the clerks by their numbers, as the room keeps it.
     pub fn choose(&self, order: &[u64]) -> Option<Pick>
         requires { (k : ℕ) → k < length order.now → slice_index order.now k < 32 }
         ensures { Chosen (waits_in self.now) order.now result }
     {
-        for i in 0..order.len() {
-            let who = order[i] as u32;
+        for (place, number) in order.iter().enumerate() {
+            let who = Clerk::new(*number as u32);
             if self.counts(who) {
                 return Some(Pick {
-                    place: i,
+                    place,
                     who,
                     clash: !self.is_free(who),
                 });

@@ -1,10 +1,10 @@
-// A set of the 32 clerks, as the bits of a word.
-ghost use Rattle.std.specs.Prelude.{◌≡◌, ℕ, ◌<◌, not, ◌||◌, ◌==◌};
+// A set of the clerks, as the bits of a word.
+ghost use Rattle.std.specs.Prelude.{◌≡◌, ℕ, ◌<◌, ◌≤◌, false, not, ◌||◌, ◌==◌};
 ghost use Rattle.locks.specs.Sets.{is_in, some_of};
 
-pub const CLERKS: u32 = 32;
+use clerk::{CLERKS, Clerk};
 
-#[derive(Clone, Copy)]
+#[derive(Clone, Copy, PartialEq, Eq, Debug)]
 pub struct ClerkSet {
     bits: u32,
 }
@@ -16,18 +16,32 @@ impl ClerkSet {
         ClerkSet { bits: 0 }
     }
 
-    pub fn contains(self, clerk: u32) -> bool
-        requires { clerk < 32 }
-        ensures { result ≡ is_in self clerk }
+    // The clerks whom `choose` takes in.
+    pub fn those<F: Fn(Clerk) -> bool>(choose: F) -> ClerkSet
+        requires { F.IsAlwaysCallable choose }
+        ensures each { (k : ℕ) → k < 32 → F.post choose k (is_in result k) }
+        ensures past { (k : ℕ) → 32 ≤ k → is_in result k ≡ false }
     {
-        (self.bits >> clerk) & 1 == 1
+        let mut set = ClerkSet::none();
+        for number in 0..CLERKS as u32 {
+            let clerk = Clerk::new(number);
+            if choose(clerk) {
+                set = set.with(clerk);
+            }
+        }
+        set
     }
 
-    pub fn with(self, clerk: u32) -> ClerkSet
-        requires { clerk < 32 }
+    pub fn contains(self, clerk: Clerk) -> bool
+        ensures { result ≡ is_in self clerk }
+    {
+        (self.bits >> clerk.number()) & 1 == 1
+    }
+
+    pub fn with(self, clerk: Clerk) -> ClerkSet
         ensures { (k : ℕ) → is_in result k ≡ (is_in self k || k == clerk) }
     {
-        let bits = self.bits | (1u32 << clerk);
+        let bits = self.bits | (1u32 << clerk.number());
         ClerkSet { bits }
     }
 

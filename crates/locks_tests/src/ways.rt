@@ -1,7 +1,7 @@
 // Each kind of line beside each kind of asking.
 use lines::line::Line;
 use lines::marks::go_back;
-use lines::ring::{Ring, push};
+use lines::ring::Ring;
 use locks::way::{Want, in_way, is_in_way};
 use std::process::Abort;
 
@@ -55,9 +55,35 @@ fn gone_back_still_locks(rt: HostRuntime) {
         start: 0,
         count: 0,
     };
-    let marked = push(&mut words, none, Line::Marked);
-    let written = push(&mut words, marked, Line::Wrote(5, 1));
+    let marked = none.push(&mut words, Line::Marked);
+    let written = marked.push(&mut words, Line::Wrote(5, 1));
     go_back(&mut words, written, 1);
-    assert_eq!(rt; in_way(&words, written, Want::Look(5)), true);
-    assert_eq!(rt; in_way(&words, written, Want::Look(6)), false);
+    assert_eq!(rt; in_way(written.lines(&words), Want::Look(5)), true);
+    assert_eq!(rt; in_way(written.lines(&words), Want::Look(6)), false);
+}
+
+// Two lines that stand at the table's end and at its start: read from both ends; then the first is changed.
+#[test]
+fn a_ring_from_both_ends(rt: HostRuntime) {
+    let mut words = [0u64; 9];
+    let none = Ring {
+        cap: 3,
+        start: 2,
+        count: 0,
+    };
+    let read = none.push(&mut words, Line::Read(5));
+    let ring = read.push(&mut words, Line::Scanned(6, None));
+    let mut lines = ring.lines(&words);
+    assert_eq!(rt; lines.next_back(), Some(Line::Scanned(6, None)));
+    assert_eq!(rt; lines.next(), Some(Line::Read(5)));
+    assert_eq!(rt; lines.next(), None);
+    let mut first = true;
+    ring.change_all(&mut words, |line: Line| -> Line {
+        let changed = if first { Line::Marked } else { line };
+        first = false;
+        changed
+    });
+    let mut changed = ring.lines(&words);
+    assert_eq!(rt; changed.next(), Some(Line::Marked));
+    assert_eq!(rt; changed.next(), Some(Line::Scanned(6, None)));
 }

@@ -8,5 +8,5 @@ pub returns : goal.returns
 unfolding has
 returns c =
     let m = c.args.self.bits in
-    let e = c.args.clerk in
-    ap (λ x. eqb x 1) (and_mask (m / 2 ^ e) 1) ∙ sym (ap (λ x. x && bit m e) (lt-ltb e 32 c.requires))
+    let e = c.number.result in
+    ap (λ x. eqb x 1) (and_mask (m / 2 ^ e) 1) ∙ sym (ap (λ x. x && bit m e) (lt-ltb e 32 c.number.ensures.low)) ∙ ap (has m) c.number.ensures.is

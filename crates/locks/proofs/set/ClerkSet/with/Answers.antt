@@ -1,4 +1,4 @@
-use Rattle.std.proofs.Common.{◌^◌, ◌||◌, ap, ◌∙◌}
+use Rattle.std.proofs.Common.{◌^◌, ◌||◌, eqb, ap, ◌∙◌}
 use lib.Bits.{bit_or}
 use Rattle.std.proofs.lemmas.Nat.{one_shl}
 use Rattle.locks.specs.Sets.{has}
@@ -8,5 +8,5 @@ use Rattle.locks.proofs.set.ClerkSet.with.Goals as goal
 pub returns : goal.returns
 returns c k =
     let s = c.args.self.bits in
-    let e = c.args.clerk in
-    ap (λ x. has (bit_or s x) k) (one_shl e 32 c.requires) ∙ has_or s (2 ^ e) k ∙ ap (λ x. has s k || x) (has_one e k c.requires)
+    let e = c.number.result in
+    ap (λ x. has (bit_or s x) k) (one_shl e 32 c.number.ensures.low) ∙ has_or s (2 ^ e) k ∙ ap (λ x. has s k || x) (has_one e k c.number.ensures.low) ∙ ap (λ x. has s k || eqb k x) c.number.ensures.is
