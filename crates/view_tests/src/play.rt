@@ -8,6 +8,7 @@ ghost use Rattle.view_tests.specs.Play.{Sane};
 
 use crate::pairs::PairList;
 use crate::show::{Entry, Stop, show};
+use clerk::Clerk;
 use lines::line::Line;
 use lines::own::add_line;
 use lines::ring::Ring;
@@ -75,34 +76,36 @@ impl Play {
         })
     }
 
-    // A deal puts x at k. Others don't see it yet.
-    pub fn put(mut self, deal: usize, k: u64, x: u64) -> Play
-        requires { deal < 32 }
+    // A clerk's deal puts x at k. Others don't see it yet.
+    pub fn put(mut self, clerk: Clerk, k: u64, x: u64) -> Play
         ensures { result ≡ self }
     {
         say(
             self.room.as_mut_slice(),
             &mut self.counts,
-            deal,
+            clerk.index(),
             Line::Wrote(k, x),
         );
         self
     }
 
-    // A deal drops k. Others don't see it yet.
-    pub fn drop_key(mut self, deal: usize, k: u64) -> Result<Play, Gone>
-        requires { deal < 32 }
+    // It drops k. Others don't see it yet.
+    pub fn drop_key(mut self, clerk: Clerk, k: u64) -> Result<Play, Gone>
         ensures { IfOk result (λ p. p ≡ self) }
     {
         let line = drop_line(&mut self.index, self.room.as_mut_slice(), k)?;
-        say(self.room.as_mut_slice(), &mut self.counts, deal, line);
+        say(
+            self.room.as_mut_slice(),
+            &mut self.counts,
+            clerk.index(),
+            line,
+        );
         Ok(self)
     }
 
-    // A deal is made: all that it wrote goes to the queue, if there is room; it has no lines then.
-    pub fn commit(mut self, deal: usize) -> Play
-        requires { deal < 32 }
-    {
+    // The deal is made: all that it wrote goes to the queue, if there is room; it has no lines then.
+    pub fn commit(mut self, clerk: Clerk) -> Play {
+        let deal = clerk.index();
         let count = self.counts[deal];
         if self.queue.count + count <= QUEUE_LINES {
             let view = View {
@@ -148,12 +151,12 @@ impl Play {
         mut self,
         rt: &HostRuntime,
         what: &str,
-        deal: usize,
+        clerk: Clerk,
         k: u64,
     ) -> Result<Play, Stop>
-        requires { deal < 32 }
         ensures { IfOk result (λ p. p ≡ self) }
     {
+        let deal = clerk.index();
         let view = View {
             deal,
             count: self.counts[deal],
@@ -169,12 +172,12 @@ impl Play {
         mut self,
         rt: &HostRuntime,
         what: &str,
-        deal: usize,
+        clerk: Clerk,
         k: u64,
     ) -> Result<Play, Stop>
-        requires { deal < 32 }
         ensures { IfOk result (λ p. p ≡ self) }
     {
+        let deal = clerk.index();
         let view = View {
             deal,
             count: self.counts[deal],
@@ -185,19 +188,15 @@ impl Play {
         Ok(self)
     }
 
-    // A deal puts the keys 1 to n, each with itself, and is made.
-    pub fn put_row(self, deal: usize, n: u64) -> Play
-        requires { deal < 32 }
-    {
+    // The deal puts the keys 1 to n, each with itself, and is made.
+    pub fn put_row(self, clerk: Clerk, n: u64) -> Play {
         (1..=n)
-            .fold(self, |play, k| play.put(deal, k, k))
-            .commit(deal)
+            .fold(self, |play, k| play.put(clerk, k, k))
+            .commit(clerk)
     }
 
-    // The keys 1 to n are dropped by a deal.
-    pub fn drop_row(self, deal: usize, n: u64) -> Result<Play, Gone>
-        requires { deal < 32 }
-    {
-        (1..=n).try_fold(self, |play, k| play.drop_key(deal, k))
+    // The deal drops the keys 1 to n.
+    pub fn drop_row(self, clerk: Clerk, n: u64) -> Result<Play, Gone> {
+        (1..=n).try_fold(self, |play, k| play.drop_key(clerk, k))
     }
 }
