@@ -58,7 +58,4 @@ pub gone_back : (o : Op) (j : ℕ) (ls : List Line) → o ≡ Back j → gone_by
 gone_back o j ls e = rw e (ap (λ n. backed n ls) (sym (add-one j)))
 
 pub ring_is : (r : Ring) (n : ℕ) → r.cap ≡ 1024 → r.start ≡ 0 → r.count ≡ n → r ≡ deal_ring n
-ring_is r n c s e =
-    ap (λ x. let y : Ring = record { cap = x; start = r.start; count = r.count } in y) c
-    ∙ ap (λ x. let y : Ring = record { cap = 1024; start = x; count = r.count } in y) s
-    ∙ ap deal_ring e
+ring_is r n c s e = grind arith
