@@ -12,6 +12,9 @@ use Rattle.lines.specs.Rings.{place, lines_of}
 abbrev pub ring : ℕ → ℕ → ℕ → Ring
 ring c s n = record { cap = c; start = s; count = n }
 
+pub ring_is : (r : Ring) (c s n : ℕ) → r.cap ≡ c → r.start ≡ s → r.count ≡ n → r ≡ ring c s n
+ring_is r c s n p q e = ap (λ x. ring x r.start r.count) p ∙ ap (λ x. ring c x r.count) q ∙ ap (λ x. ring c s x) e
+
 pub place_low : (r : Ring) (i : ℕ) → r.start + i < r.cap → place r i ≡ r.start + i
 unfolding place
 place_low r i h = rw (lt-ltb (r.start + i) r.cap h)

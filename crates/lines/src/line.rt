@@ -6,7 +6,7 @@ ghost use Rattle.lines.specs.Lines.{line_at, line_of, tag_of, first_of, second_o
 // The kept key of `Cleared` is an `Option`, told by the tag, so that key 0 is a key as any other.
 #[derive(Clone, Copy, PartialEq, Eq, Debug)]
 pub enum Line {
-    // Says nothing and locks nothing.
+    // Says nothing and locks nothing. Zero words are such a line, so it is a kind of line and not the lack of one.
     Idle,
     // The word is put at the key.
     Wrote(u64, u64),
@@ -24,6 +24,9 @@ pub enum Line {
 
 const WORDS: usize = 3;
 
+// The tags, which the words of the room have in place of a type. Only the two conversions below know them.
+const IDLE: u64 = 0;
+
 const WROTE: u64 = 1;
 
 const CLEARED_LAST: u64 = 2;
@@ -39,8 +42,6 @@ const SCANNED_LAST: u64 = 6;
 const SCANNED: u64 = 7;
 
 const MARKED: u64 = 8;
-
-const IDLE: u64 = 0;
 
 // A tag that no line has is read as idle.
 impl From<[u64; 3]> for Line {

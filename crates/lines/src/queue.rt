@@ -1,4 +1,5 @@
-// The queue of committed writes, in the room.
+// The queue of committed writes, in the room. As in `own`, each function is one of the ring's, over a part of the room;
+// the two differ in that part, and in what they say of the rest of the room.
 ghost use Rattle.std.specs.Prelude.{◌≡◌, ◌+◌, ◌<◌, [], ◌∷◌, ◌++◌};
 ghost use Rattle.lines.specs.Changes.{ChangesTo};
 ghost use Rattle.lines.specs.Tables.{queue_lines, QueueIn, OnlyQueue};

@@ -113,6 +113,7 @@ impl Ring {
         requires callable { F.IsAlwaysCallable change }
         ensures { ChangesTo F.step change (lines_of words.old self) (lines_of words.new self) }
     {
+        // By number, since each line is written back to where it was read.
         for i in 0..self.count {
             let p = self.spot(i);
             let line = change(read_line(words, p));

@@ -3,9 +3,10 @@ ghost use Rattle.std.specs.Prelude.{◌≡◌};
 ghost use Rattle.lines.specs.Tables.{deal_ring};
 
 use crate::ring::Ring;
+use clerk::CLERKS;
 
-// Deals that can be open at a time, and the lines that each can have.
-pub const DEALS: usize = 32;
+// Deals that can be open at a time, one for each clerk, and the lines that each can have.
+pub const DEALS: usize = CLERKS;
 
 pub const DEAL_LINES: usize = 1024;
 // A deal's lines in words. The deal c stands at c times this.

@@ -1,5 +1,5 @@
 -- Bits of a word, and what a set spreads to.
-use Rattle.std.proofs.Common.{◌≡◌, ℕ, zero, suc, ◌+◌, ◌^◌, ◌<◌, max, Bool, true, false, not, ◌&&◌, ◌||◌, eqb, ltb, get_or, replicate, w32, sym, refl, ap, ◌∙◌, ap₂, inl, inr, add-one, arith}
+use Rattle.std.proofs.Common.{◌≡◌, ℕ, zero, suc, ◌+◌, ◌^◌, ◌<◌, max, Bool, true, false, not, ◌&&◌, ◌||◌, eqb, ltb, get_or, replicate, w32, ◌≤◌, sym, refl, ap, ◌∙◌, ap₂, subst, inl, inr, add-one, arith}
 use lib.Bits.{bit_or}
 use Rattle.std.specs.Int.{bit_at, trailing_zeros}
 use Rattle.std.proofs.Math.Bool.{or-false}
@@ -90,6 +90,28 @@ some_none (suc n) f h = or_from (some_of n f) (f n) (some_none n f (λ e l. h e 
 pub has_zero : (e : ℕ) → has 0 e ≡ false
 unfolding has
 has_zero e = and_right (ltb e 32) (bit 0 e) (ap (λ x. eqb x 1) (bit_at-zero e))
+
+-- one more is taken in, or not, of whom P says so
+pub taken : (P : ℕ → Bool → Type 0) (s t : ℕ → Bool) (n : ℕ) (b : Bool) → ((k : ℕ) → k < n → P k (s k)) → ((k : ℕ) → n ≤ k → s k ≡ false) → P n b → ((k : ℕ) → t k ≡ (s k || (b && eqb k n)))
+    → ((k : ℕ) → k < n + 1 → P k (t k)) × ((k : ℕ) → n + 1 ≤ k → t k ≡ false)
+taken P s t n b below past p is = (
+  λ k h. elim (cases_eq k n) [
+    | inl q ↦ subst (λ x. P x (t x)) (sym q) (subst (P n) (sym (is n ∙ ap (λ x. x || (b && eqb n n)) (past n (omega arith)) ∙ ap (λ x. b && x) (eq-eqb n n refl) ∙ and_true b)) p)
+    | inr d ↦ subst (P k) (sym (same k d)) (below k (omega arith))
+  ],
+  λ k h. same k (λ q. absurd (omega arith)) ∙ past k (omega arith),
+)
+  where
+    and_true : (x : Bool) → (x && true) ≡ x
+    and_true true = refl
+    and_true false = refl
+
+    none : (x y : Bool) → y ≡ false → (x && y) ≡ false
+    none true y e = e
+    none false y e = refl
+
+    same : (k : ℕ) → (k ≡ n → ⊥) → t k ≡ s k
+    same k d = is k ∙ ap (λ x. s k || x) (none b (eqb k n) (ne_eqb k n d)) ∙ or-false (s k)
 
 -- a set as it's gathered one by one
 pub set_in : (f h h' : ℕ → Bool) (e : ℕ) → ((k : ℕ) → h k ≡ (ltb k e && f k)) → ((k : ℕ) → h' k ≡ (h k || eqb k e)) → f e ≡ true → (k : ℕ) → h' k ≡ (ltb k (e + 1) && f k)

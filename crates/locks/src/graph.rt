@@ -13,6 +13,7 @@ pub struct WaitGraph {
 }
 
 // Who gets on, at which place of the order; by a clash, if it is on a ring.
+// Either way there are a place and a clerk, so the clash is a fact of its own beside them.
 #[derive(Clone, Copy, PartialEq, Eq, Debug)]
 pub struct Pick {
     pub place: usize,

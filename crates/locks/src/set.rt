@@ -1,8 +1,8 @@
 // A set of the clerks, as the bits of a word.
-ghost use Rattle.std.specs.Prelude.{◌≡◌, ℕ, not, ◌||◌, ◌==◌};
+ghost use Rattle.std.specs.Prelude.{◌≡◌, ℕ, ◌<◌, ◌≤◌, false, not, ◌||◌, ◌==◌};
 ghost use Rattle.locks.specs.Sets.{is_in, some_of};
 
-use clerk::Clerk;
+use clerk::{CLERKS, Clerk};
 
 #[derive(Clone, Copy, PartialEq, Eq, Debug)]
 pub struct ClerkSet {
@@ -14,6 +14,22 @@ impl ClerkSet {
         ensures { result.bits ≡ 0 }
     {
         ClerkSet { bits: 0 }
+    }
+
+    // The clerks whom `choose` takes in.
+    pub fn those<F: Fn(Clerk) -> bool>(choose: F) -> ClerkSet
+        requires { F.IsAlwaysCallable choose }
+        ensures each { (k : ℕ) → k < 32 → F.post choose k (is_in result k) }
+        ensures past { (k : ℕ) → 32 ≤ k → is_in result k ≡ false }
+    {
+        let mut set = ClerkSet::none();
+        for number in 0..CLERKS as u32 {
+            let clerk = Clerk::new(number);
+            if choose(clerk) {
+                set = set.with(clerk);
+            }
+        }
+        set
     }
 
     pub fn contains(self, clerk: Clerk) -> bool

@@ -7,6 +7,7 @@ use lines::ring::Lines;
 
 // What an asking touches: nothing, a key that it looks at, a key that it writes,
 // or all keys above one, up to the key that it would find, if any.
+// Nothing is one of the four beside the others, since each is matched with the lines in its way.
 #[derive(Clone, Copy, PartialEq, Eq, Debug)]
 pub enum Want {
     Nothing,

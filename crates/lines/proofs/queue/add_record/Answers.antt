@@ -1,6 +1,6 @@
-use Rattle.std.proofs.Common.{◌≡◌, length, ◌∙◌, arith}
+use Rattle.std.proofs.Common.{sym, ◌∙◌}
 use Rattle.lines.specs.Tables.{queue_lines}
-use Rattle.lines.proofs.Parts.{length_put_mid, queue_length, queue_here, only_queue}
+use Rattle.lines.proofs.Parts.{queue_written, queue_size, only_queue}
 use Rattle.lines.proofs.queue.add_record.Goals as goal
 
 pub returns : goal.returns
@@ -9,12 +9,12 @@ returns c =
     let w = c.args.room.now in
     let v = c.push.new.words in
     let e = c.push.ensures in
-    let long : length v ≡ 98304 = c.push.auto.words ∙ queue_length w c.requires.0.room in
+    let here = c.requires.0 in
     record {
-      lines = queue_here w v c.requires.0.room long c.push.result ∙ e.lines;
+      lines = sym (queue_written w v here.room c.push.auto.words c.push.result) ∙ e.lines;
       queue = (
-        record { room = length_put_mid 98304 98304 w v (omega (arith, c.requires.0.room)) long ∙ c.requires.0.room; cap = e.grown.0 ∙ c.requires.0.cap; start = e.holds.start; count = e.holds.count },
+        record { room = queue_size w v here.room c.push.auto.words; cap = e.grown.0 ∙ here.cap; start = e.holds.start; count = e.holds.count },
         (e.grown.1.0, e.grown.1.1),
       );
-      only = only_queue w v c.requires.0.room long;
+      only = only_queue w v here.room c.push.auto.words;
     }
