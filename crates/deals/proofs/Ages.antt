@@ -22,14 +22,7 @@ count_same (suc n) f g h = ap₂ (λ x y. x + one_if y) (count_same n f g (λ c 
 count_set : (n : ℕ) (f g : ℕ → Bool) (c : ℕ) → c < n → f c ≡ false → g c ≡ true → ((e : ℕ) → (e ≡ c → ⊥) → f e ≡ g e) → count_to n g ≡ count_to n f + 1
 unfolding count_to
 count_set zero f g c l p q h = absurd (omega arith)
-count_set (suc n) f g c l p q h =
-    elim (cases_eq c n) [
-      | inl i ↦
-          let a : one_if (g n) ≡ 1 = ap one_if (sym (ap g i) ∙ q) in
-          let b : one_if (f n) ≡ 0 = ap one_if (sym (ap f i) ∙ p) in
-          omega (arith, count_same n f g (λ e k. h e (λ j. absurd (omega arith))))
-      | inr d ↦ omega (arith, count_set n f g c (omega arith) p q h, ap one_if (h n (λ j. d (sym j))))
-    ]
+count_set (suc n) f g c l p q h = grind (arith, cases_eq c n, count_same n f g, count_set n f g c, h)
 
 count_most : (n : ℕ) (f : ℕ → Bool) → count_to n f ≤ n
 unfolding count_to
@@ -39,11 +32,7 @@ count_most (suc n) f = omega (arith, count_most n f, one_most (f n))
 count_short : (n : ℕ) (f : ℕ → Bool) (c : ℕ) → c < n → f c ≡ false → count_to n f < n
 unfolding count_to
 count_short zero f c l p = absurd (omega arith)
-count_short (suc n) f c l p =
-    elim (cases_eq c n) [
-      | inl i ↦ omega (arith, count_most n f, ap one_if (sym (ap f i) ∙ p))
-      | inr d ↦ omega (arith, count_short n f c (omega arith) p, one_most (f n))
-    ]
+count_short (suc n) f c l p = grind (arith, cases_eq c n, count_most n f, one_most, count_short n f c)
 
 under_quiet : (n : Now) → n ≡ Quiet → is_under n ≡ false
 unfolding is_under
@@ -174,10 +163,10 @@ to_at q j m l h d =
     ]
 
 from_not : (q : List ℕ) (j k : ℕ) (f : From q j k) → f.at ≡ j → ⊥
-from_not q j k f e = elim f.less [ inl x ↦ absurd (omega arith) | inr x ↦ absurd (omega arith) ]
+from_not q j k f e = grind (arith, f.less)
 
 from_one : (q : List ℕ) (j k m : ℕ) (f : From q j k) (g : From q j m) → f.at ≡ g.at → k ≡ m
-from_one q j k m f g e = elim f.less [ inl x ↦ elim g.less [ inl y ↦ omega arith | inr y ↦ omega arith ] | inr x ↦ elim g.less [ inl y ↦ omega arith | inr y ↦ omega arith ] ]
+from_one q j k m f g e = grind (arith, f.less, g.less)
 
 -- ONE IS SERVED, the first who counts; its deal may be any now, and the book
 module _ (can : Op → Bool) (s : State) (q : List ℕ) (j : ℕ) (b : Book) (d : List Said) (o : Op) (a : Answer) (g : ℕ) (i : LineUp can true s q) (l : j < length q)

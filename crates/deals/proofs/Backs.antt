@@ -33,10 +33,8 @@ bare_stale l = grind arith
 
 bare_backed : (n : ℕ) (ls : List Line) → map bare (backed n ls) ≡ backed n (map bare ls)
 bare_backed n [] = refl
-bare_backed zero (l ∷ ls) = ap₂ ◌∷◌ (bare_stale l) (bare_backed zero ls)
-bare_backed (suc n) (l ∷ ls) =
-    ap (map bare) (back_on n l ls) ∙ ap (λ x. bare l ∷ x) (bare_backed (cond (is_mark l) n (suc n)) ls ∙ ap (λ b. backed (cond b n (suc n)) (map bare ls)) (sym (bare_mark l)))
-    ∙ sym (back_on n (bare l) (map bare ls))
+bare_backed zero (l ∷ ls) = grind (arith, bare_stale, bare_backed zero ls)
+bare_backed (suc n) (l ∷ ls) = grind (arith, back_on, bare_mark, bare_backed (cond (is_mark l) n (suc n)) ls)
 
 bare_gone : (o : Op) (ls : List Line) → map bare (gone_by o ls) ≡ gone_by o (map bare ls)
 bare_gone o ls = grind (arith, bare_backed)
