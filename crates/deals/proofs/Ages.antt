@@ -81,28 +81,14 @@ module _ (can : Op → Bool) (s : State) (q : List ℕ) (c : ℕ) (o : Op) (i : 
   at_last k h g = omega (arith, length_push q c)
 
   few_asked : (k : ℕ) → k < length (q ++ c ∷ []) → get_or (q ++ c ∷ []) k 0 < 32
-  few_asked k h = elim (cases_lt k (length q)) [ inl g ↦ rw (low k g) (i.few k g) | inr g ↦ rw (last k h g) l ]
+  few_asked k h = grind (arith, cases_lt k (length q), low, last, i.few)
 
   under_asked : (k : ℕ) → k < length (q ++ c ∷ []) → is_under (s'.clerk (get_or (q ++ c ∷ []) k 0)).now' ≡ true
   unfolding is_under
-  under_asked k h =
-      elim (cases_lt k (length q)) [
-        | inl g ↦ ap (λ x. is_under (s'.clerk x).now') (low k g) ∙ ap is_under (old (get_or q k 0) (not_c k g)) ∙ i.under k g
-        | inr g ↦ ap (λ x. is_under (s'.clerk x).now') (last k h g) ∙ ap is_under new
-      ]
+  under_asked k h = grind (arith, cases_lt k (length q), low, last, old, not_c, new, i.under)
 
   once_asked : (k j : ℕ) → k < length (q ++ c ∷ []) → j < length (q ++ c ∷ []) → get_or (q ++ c ∷ []) k 0 ≡ get_or (q ++ c ∷ []) j 0 → k ≡ j
-  once_asked k j h g e =
-      elim (cases_lt k (length q)) [
-        | inl a ↦ elim (cases_lt j (length q)) [
-          | inl b ↦ i.once k j a b (sym (low k a) ∙ e ∙ low j b)
-          | inr b ↦ absurd (not_c k a (sym (low k a) ∙ e ∙ last j g b))
-        ]
-        | inr a ↦ elim (cases_lt j (length q)) [
-          | inl b ↦ absurd (not_c j b (sym (low j b) ∙ sym e ∙ last k h a))
-          | inr b ↦ at_last k h a ∙ sym (at_last j g b)
-        ]
-      ]
+  once_asked k j h g e = grind (arith, cases_lt k (length q), cases_lt j (length q), low k, low j, last k h, last j g, not_c k, not_c j, at_last k h, at_last j g, i.once k j)
 
   all_asked : (e : ℕ) → e < 32 → is_under (s'.clerk e).now' ≡ true → (k : ℕ) × (k < length (q ++ c ∷ [])) × (get_or (q ++ c ∷ []) k 0 ≡ e)
   all_asked e h u =
