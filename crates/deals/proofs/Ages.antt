@@ -22,14 +22,7 @@ count_same (suc n) f g h = ap₂ (λ x y. x + one_if y) (count_same n f g (λ c 
 count_set : (n : ℕ) (f g : ℕ → Bool) (c : ℕ) → c < n → f c ≡ false → g c ≡ true → ((e : ℕ) → (e ≡ c → ⊥) → f e ≡ g e) → count_to n g ≡ count_to n f + 1
 unfolding count_to
 count_set zero f g c l p q h = absurd (omega arith)
-count_set (suc n) f g c l p q h =
-    elim (cases_eq c n) [
-      | inl i ↦
-          let a : one_if (g n) ≡ 1 = ap one_if (sym (ap g i) ∙ q) in
-          let b : one_if (f n) ≡ 0 = ap one_if (sym (ap f i) ∙ p) in
-          omega (arith, count_same n f g (λ e k. h e (λ j. absurd (omega arith))))
-      | inr d ↦ omega (arith, count_set n f g c (omega arith) p q h, ap one_if (h n (λ j. d (sym j))))
-    ]
+count_set (suc n) f g c l p q h = grind (arith, cases_eq c n, count_same n f g, count_set n f g c, h)
 
 count_most : (n : ℕ) (f : ℕ → Bool) → count_to n f ≤ n
 unfolding count_to
@@ -39,11 +32,7 @@ count_most (suc n) f = omega (arith, count_most n f, one_most (f n))
 count_short : (n : ℕ) (f : ℕ → Bool) (c : ℕ) → c < n → f c ≡ false → count_to n f < n
 unfolding count_to
 count_short zero f c l p = absurd (omega arith)
-count_short (suc n) f c l p =
-    elim (cases_eq c n) [
-      | inl i ↦ omega (arith, count_most n f, ap one_if (sym (ap f i) ∙ p))
-      | inr d ↦ omega (arith, count_short n f c (omega arith) p, one_most (f n))
-    ]
+count_short (suc n) f c l p = grind (arith, cases_eq c n, count_most n f, one_most, count_short n f c)
 
 under_quiet : (n : Now) → n ≡ Quiet → is_under n ≡ false
 unfolding is_under
@@ -92,28 +81,14 @@ module _ (can : Op → Bool) (s : State) (q : List ℕ) (c : ℕ) (o : Op) (i : 
   at_last k h g = omega (arith, length_push q c)
 
   few_asked : (k : ℕ) → k < length (q ++ c ∷ []) → get_or (q ++ c ∷ []) k 0 < 32
-  few_asked k h = elim (cases_lt k (length q)) [ inl g ↦ rw (low k g) (i.few k g) | inr g ↦ rw (last k h g) l ]
+  few_asked k h = grind (arith, cases_lt k (length q), low, last, i.few)
 
   under_asked : (k : ℕ) → k < length (q ++ c ∷ []) → is_under (s'.clerk (get_or (q ++ c ∷ []) k 0)).now' ≡ true
   unfolding is_under
-  under_asked k h =
-      elim (cases_lt k (length q)) [
-        | inl g ↦ ap (λ x. is_under (s'.clerk x).now') (low k g) ∙ ap is_under (old (get_or q k 0) (not_c k g)) ∙ i.under k g
-        | inr g ↦ ap (λ x. is_under (s'.clerk x).now') (last k h g) ∙ ap is_under new
-      ]
+  under_asked k h = grind (arith, cases_lt k (length q), low, last, old, not_c, new, i.under)
 
   once_asked : (k j : ℕ) → k < length (q ++ c ∷ []) → j < length (q ++ c ∷ []) → get_or (q ++ c ∷ []) k 0 ≡ get_or (q ++ c ∷ []) j 0 → k ≡ j
-  once_asked k j h g e =
-      elim (cases_lt k (length q)) [
-        | inl a ↦ elim (cases_lt j (length q)) [
-          | inl b ↦ i.once k j a b (sym (low k a) ∙ e ∙ low j b)
-          | inr b ↦ absurd (not_c k a (sym (low k a) ∙ e ∙ last j g b))
-        ]
-        | inr a ↦ elim (cases_lt j (length q)) [
-          | inl b ↦ absurd (not_c j b (sym (low j b) ∙ sym e ∙ last k h a))
-          | inr b ↦ at_last k h a ∙ sym (at_last j g b)
-        ]
-      ]
+  once_asked k j h g e = grind (arith, cases_lt k (length q), cases_lt j (length q), low k, low j, last k h, last j g, not_c k, not_c j, at_last k h, at_last j g, i.once k j)
 
   all_asked : (e : ℕ) → e < 32 → is_under (s'.clerk e).now' ≡ true → (k : ℕ) × (k < length (q ++ c ∷ [])) × (get_or (q ++ c ∷ []) k 0 ≡ e)
   all_asked e h u =
@@ -174,10 +149,10 @@ to_at q j m l h d =
     ]
 
 from_not : (q : List ℕ) (j k : ℕ) (f : From q j k) → f.at ≡ j → ⊥
-from_not q j k f e = elim f.less [ inl x ↦ absurd (omega arith) | inr x ↦ absurd (omega arith) ]
+from_not q j k f e = grind (arith, f.less)
 
 from_one : (q : List ℕ) (j k m : ℕ) (f : From q j k) (g : From q j m) → f.at ≡ g.at → k ≡ m
-from_one q j k m f g e = elim f.less [ inl x ↦ elim g.less [ inl y ↦ omega arith | inr y ↦ omega arith ] | inr x ↦ elim g.less [ inl y ↦ omega arith | inr y ↦ omega arith ] ]
+from_one q j k m f g e = grind (arith, f.less, g.less)
 
 -- ONE IS SERVED, the first who counts; its deal may be any now, and the book
 module _ (can : Op → Bool) (s : State) (q : List ℕ) (j : ℕ) (b : Book) (d : List Said) (o : Op) (a : Answer) (g : ℕ) (i : LineUp can true s q) (l : j < length q)

@@ -33,10 +33,8 @@ bare_stale l = grind arith
 
 bare_backed : (n : ℕ) (ls : List Line) → map bare (backed n ls) ≡ backed n (map bare ls)
 bare_backed n [] = refl
-bare_backed zero (l ∷ ls) = ap₂ ◌∷◌ (bare_stale l) (bare_backed zero ls)
-bare_backed (suc n) (l ∷ ls) =
-    ap (map bare) (back_on n l ls) ∙ ap (λ x. bare l ∷ x) (bare_backed (cond (is_mark l) n (suc n)) ls ∙ ap (λ b. backed (cond b n (suc n)) (map bare ls)) (sym (bare_mark l)))
-    ∙ sym (back_on n (bare l) (map bare ls))
+bare_backed zero (l ∷ ls) = grind (arith, bare_stale, bare_backed zero ls)
+bare_backed (suc n) (l ∷ ls) = grind (arith, back_on, bare_mark, bare_backed (cond (is_mark l) n (suc n)) ls)
 
 bare_gone : (o : Op) (ls : List Line) → map bare (gone_by o ls) ≡ gone_by o (map bare ls)
 bare_gone o ls = grind (arith, bare_backed)
@@ -58,7 +56,4 @@ pub gone_back : (o : Op) (j : ℕ) (ls : List Line) → o ≡ Back j → gone_by
 gone_back o j ls e = rw e (ap (λ n. backed n ls) (sym (add-one j)))
 
 pub ring_is : (r : Ring) (n : ℕ) → r.cap ≡ 1024 → r.start ≡ 0 → r.count ≡ n → r ≡ deal_ring n
-ring_is r n c s e =
-    ap (λ x. let y : Ring = record { cap = x; start = r.start; count = r.count } in y) c
-    ∙ ap (λ x. let y : Ring = record { cap = 1024; start = x; count = r.count } in y) s
-    ∙ ap deal_ring e
+ring_is r n c s e = grind arith

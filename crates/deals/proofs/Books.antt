@@ -165,11 +165,7 @@ next_told n k b a u h = next_only (λ j. find j b) k (next_in k b) a (next_is n 
 
 -- a book is what is found in it
 same_tail : (p q : Two) (b c : Book) → Up (suc p.key) b → Up (suc q.key) c → ((k : ℕ) → find k (p ∷ b) ≡ find k (q ∷ c)) → p.key ≡ q.key → (k : ℕ) → find k b ≡ find k c
-same_tail p q b c u v e i k =
-    elim (cases_lt p.key k) [
-      | inl l ↦ sym (find_past k p b l) ∙ e k ∙ find_past k q c (omega arith)
-      | inr g ↦ find_low (suc p.key) k b u (omega arith) ∙ sym (find_low (suc q.key) k c v (omega arith))
-    ]
+same_tail p q b c u v e i k = grind (arith, cases_lt, find_past, find_low)
 
 same_pair : (p q : Two) (b c : Book) → ((k : ℕ) → find k (p ∷ b) ≡ find k (q ∷ c)) → p.key ≡ q.key → p ≡ q
 same_pair p q b c e i = ap₂ two i (let w : Word p.word ≡ Word q.word = sym (find_here p.key p b refl) ∙ e p.key ∙ find_here p.key q c (sym i) in cc)

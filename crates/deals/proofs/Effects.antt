@@ -1,7 +1,7 @@
 -- The lines of a deal have its writes that are in effect, and its marks.
 use Rattle.std.proofs.Common.{◌≡◌, ℕ, zero, suc, ◌<◌, ◌≤◌, true, false, cond, List, [], ◌∷◌, ◌++◌, map, length, get_or, take, sym, refl, ap, ◌∙◌, ap₂, inl, inr, arith}
 use Rattle.std.proofs.lemmas.List.{append-nil, append_assoc, take_all, length-map}
-use Rattle.std.proofs.lemmas.Bool.{cases_lt, cases_Bool, lt-ltb, le-ltb}
+use Rattle.std.proofs.lemmas.Bool.{cases_lt, lt-ltb, le-ltb}
 use Rattle.deals.specs.declared.Op.{Op}
 use Rattle.deals.specs.declared.Op.TheVariants.{Get, Put, Drop, Next, Mark, Back, Commit, Undo}
 use Rattle.deals.specs.declared.Answer.{Answer}
@@ -27,16 +27,12 @@ mark_writes l e = grind arith
 writes_push : (ls : List Line) (l : Line) → writes_in (ls ++ l ∷ []) ≡ writes_in ls ++ write_in l
 unfolding writes_in
 writes_push [] l = append-nil (write_in l)
-writes_push (x ∷ ls) l = ap (λ y. write_in x ++ y) (writes_push ls l) ∙ sym (append_assoc (write_in x) (writes_in ls) (write_in l))
+writes_push (x ∷ ls) l = grind (arith, append_assoc, writes_push ls l)
 
 marks_push : (a : List Write) (ls : List Line) (l : Line) → at_marks a (ls ++ l ∷ []) ≡ at_marks a ls ++ cond (is_mark l) ((a ++ writes_in ls) ∷ []) []
 unfolding at_marks writes_in
-marks_push a [] l = elim (cases_Bool (is_mark l)) [ inl e ↦ rw (e, append-nil a) | inr e ↦ rw e ]
-marks_push a (x ∷ ls) l =
-    elim (cases_Bool (is_mark x)) [
-      | inl e ↦ rw (e, mark_writes x e) (ap (λ y. a ∷ y) (marks_push a ls l))
-      | inr e ↦ rw e (marks_push (a ++ write_in x) ls l ∙ ap (λ y. at_marks (a ++ write_in x) ls ++ cond (is_mark l) (y ∷ []) []) (append_assoc a (write_in x) (writes_in ls)))
-    ]
+marks_push a [] l = grind (arith, append-nil)
+marks_push a (x ∷ ls) l = grind (arith, mark_writes, append_assoc, marks_push a ls l, marks_push (a ++ write_in x) ls l)
 
 -- PAST THE LAST MARK THAT STAYS there is nothing in effect
 stale_writes : (l : Line) → write_in (stale l) ≡ []
@@ -59,45 +55,21 @@ past_marks a (l ∷ ls) = rw (stale_mark l) (past_marks (a ++ write_in (stale l)
 back_writes : (ls : List Line) (n : ℕ) (a : List Write) → n < length (at_marks a ls) → a ++ writes_in (backed (suc n) ls) ≡ get_or (at_marks a ls) n []
 unfolding writes_in at_marks
 back_writes [] n a h = absurd (omega arith)
-back_writes (l ∷ ls) zero a h =
-    elim (cases_Bool (is_mark l)) [
-      | inl t ↦ rw (back_on 0 l ls, t, mark_writes l t, past_writes ls) (append-nil a)
-      | inr t ↦ rw (back_on 0 l ls, t) (sym (append_assoc a (write_in l) (writes_in (backed 1 ls))) ∙ back_writes ls zero (a ++ write_in l) (rw t at h))
-    ]
-back_writes (l ∷ ls) (suc n) a h =
-    elim (cases_Bool (is_mark l)) [
-      | inl t ↦ let g : suc n < suc (length (at_marks a ls)) = rw t at h in rw (back_on (suc n) l ls, t, mark_writes l t) (back_writes ls n a (omega arith))
-      | inr t ↦ rw (back_on (suc n) l ls, t) (sym (append_assoc a (write_in l) (writes_in (backed (suc (suc n)) ls))) ∙ back_writes ls (suc n) (a ++ write_in l) (rw t at h))
-    ]
+back_writes (l ∷ ls) zero a h = grind (arith, back_on 0 l ls, mark_writes, past_writes, append-nil, append_assoc, back_writes ls zero (a ++ write_in l))
+back_writes (l ∷ ls) (suc n) a h = grind (arith, back_on (suc n) l ls, mark_writes, append_assoc, back_writes ls n a, back_writes ls (suc n) (a ++ write_in l))
 
 back_marks : (ls : List Line) (n : ℕ) (a : List Write) → at_marks a (backed (suc n) ls) ≡ take (suc n) (at_marks a ls)
 unfolding at_marks
 back_marks [] n a = refl
-back_marks (l ∷ ls) zero a =
-    elim (cases_Bool (is_mark l)) [
-      | inl t ↦ rw (back_on 0 l ls, t) (ap (λ y. a ∷ y) (past_marks a ls))
-      | inr t ↦ rw (back_on 0 l ls, t) (back_marks ls zero (a ++ write_in l))
-    ]
-back_marks (l ∷ ls) (suc n) a =
-    elim (cases_Bool (is_mark l)) [
-      | inl t ↦ rw (back_on (suc n) l ls, t) (ap (λ y. a ∷ y) (back_marks ls n a))
-      | inr t ↦ rw (back_on (suc n) l ls, t) (back_marks ls (suc n) (a ++ write_in l))
-    ]
+back_marks (l ∷ ls) zero a = grind (arith, back_on 0 l ls, past_marks, back_marks ls zero (a ++ write_in l))
+back_marks (l ∷ ls) (suc n) a = grind (arith, back_on (suc n) l ls, back_marks ls n a, back_marks ls (suc n) (a ++ write_in l))
 
 -- back to none: nothing is gone over
 back_none : (ls : List Line) (n : ℕ) (a : List Write) → length (at_marks a ls) ≤ n → backed (suc n) ls ≡ ls
 unfolding at_marks
 back_none [] n a h = refl
-back_none (l ∷ ls) zero a h =
-    elim (cases_Bool (is_mark l)) [
-      | inl t ↦ let g : suc (length (at_marks a ls)) ≤ 0 = rw t at h in absurd (omega arith)
-      | inr t ↦ rw (back_on 0 l ls, t) (ap (λ y. l ∷ y) (back_none ls zero (a ++ write_in l) (rw t at h)))
-    ]
-back_none (l ∷ ls) (suc n) a h =
-    elim (cases_Bool (is_mark l)) [
-      | inl t ↦ let g : suc (length (at_marks a ls)) ≤ suc n = rw t at h in rw (back_on (suc n) l ls, t) (ap (λ y. l ∷ y) (back_none ls n a (omega arith)))
-      | inr t ↦ rw (back_on (suc n) l ls, t) (ap (λ y. l ∷ y) (back_none ls (suc n) (a ++ write_in l) (rw t at h)))
-    ]
+back_none (l ∷ ls) zero a h = grind (arith, back_on 0 l ls, back_none ls zero (a ++ write_in l))
+back_none (l ∷ ls) (suc n) a h = grind (arith, back_on (suc n) l ls, back_none ls n a, back_none ls (suc n) (a ++ write_in l))
 
 -- ONE MORE IS TOLD: the lines' writes are as the deal's
 scan_plain : (k : ℕ) (x : Answer) → (write_in (scan_line k x) ≡ []) × (is_mark (scan_line k x) ≡ false)
@@ -162,11 +134,7 @@ bare_writes (l ∷ ls) = ap₂ ◌++◌ (bare_write l) (bare_writes ls)
 bare_marks : (a : List Write) (ls : List Line) → at_marks a (map bare ls) ≡ at_marks a ls
 unfolding at_marks
 bare_marks a [] = refl
-bare_marks a (l ∷ ls) =
-    elim (cases_Bool (is_mark l)) [
-      | inl e ↦ rw (bare_mark l, e) (ap (λ y. a ∷ y) (bare_marks a ls))
-      | inr e ↦ rw (bare_mark l, e, bare_write l) (bare_marks (a ++ write_in l) ls)
-    ]
+bare_marks a (l ∷ ls) = grind (arith, bare_mark, bare_write, bare_marks a ls, bare_marks (a ++ write_in l) ls)
 
 mark_is : (l : Line) → mark_of l ≡ cond (is_mark l) 1 0
 mark_is l = grind arith
@@ -174,11 +142,7 @@ mark_is l = grind arith
 count_marks : (a : List Write) (ls : List Line) → length (at_marks a ls) ≡ marks_in ls
 unfolding at_marks
 count_marks a [] = refl
-count_marks a (l ∷ ls) =
-    elim (cases_Bool (is_mark l)) [
-      | inl e ↦ rw (mark_is l, e) (omega (arith, count_marks a ls))
-      | inr e ↦ rw (mark_is l, e) (omega (arith, count_marks (a ++ write_in l) ls))
-    ]
+count_marks a (l ∷ ls) = grind (arith, mark_is, count_marks a ls, count_marks (a ++ write_in l) ls)
 
 -- THE TABLE HAS THE DEAL'S WRITES
 pub table_writes : (room : List ℕ) (c : ℕ) (ss : List Said) → Keeps room c ss → writes_in (lines_in room c) ≡ effect ss

@@ -1,33 +1,19 @@
 -- Who waits for whom, as sets: what a ring is, step by step.
-use Rattle.std.proofs.Common.{◌≡◌, ℕ, zero, suc, ◌<◌, ◌≤◌, Bool, false, ◌&&◌, ◌||◌, ltb, List, refl, ap, ◌∙◌, inl, inr, arith}
+use Rattle.std.proofs.Common.{◌≡◌, ℕ, zero, suc, ◌<◌, ◌≤◌, Bool, false, ◌&&◌, ◌||◌, ltb, List, refl, ap, ◌∙◌, arith}
 use mathlib.Core.Path.{fun_ext}
-use Rattle.std.proofs.lemmas.Bool.{eq-eqb, ne_eqb, cases_eq, cases_Bool, cases_lt, lt-ltb, le-ltb}
+use Rattle.std.proofs.lemmas.Bool.{cases_eq, cases_lt, lt-ltb, le-ltb}
 use Rattle.deals.specs.declared.Op.{Op}
 use Rattle.deals.specs.Deals.{State, some', is_in, those, further, reach, ring, waits}
 
 is_in_past : (n : ℕ) (f : ℕ → Bool) (e : ℕ) → n ≤ e → is_in e (those n f) ≡ false
 unfolding is_in those
 is_in_past zero f e h = refl
-is_in_past (suc n) f e h =
-    elim (cases_Bool (f n)) [
-      | inl t ↦ rw (t, ne_eqb e n (omega arith)) (is_in_past n f e (omega arith))
-      | inr t ↦ rw t (is_in_past n f e (omega arith))
-    ]
+is_in_past (suc n) f e h = grind (arith, is_in_past n f e)
 
 is_in_below : (n : ℕ) (f : ℕ → Bool) (e : ℕ) → e < n → is_in e (those n f) ≡ f e
 unfolding is_in those
 is_in_below zero f e h = absurd (omega arith)
-is_in_below (suc n) f e h =
-    elim (cases_eq e n) [
-      | inl i ↦ elim (cases_Bool (f n)) [
-        | inl t ↦ rw (i, t, eq-eqb n n refl)
-        | inr t ↦ rw (i, t) (is_in_past n f n (omega arith))
-      ]
-      | inr d ↦ elim (cases_Bool (f n)) [
-        | inl t ↦ rw (t, ne_eqb e n d) (is_in_below n f e (omega arith))
-        | inr t ↦ rw t (is_in_below n f e (omega arith))
-      ]
-    ]
+is_in_below (suc n) f e h = grind (arith, cases_eq e n, is_in_past n f n, is_in_below n f e)
 
 pub is_in_those : (n : ℕ) (f : ℕ → Bool) (e : ℕ) → is_in e (those n f) ≡ (ltb e n && f e)
 is_in_those n f e = grind (arith, cases_lt, lt-ltb, is_in_below, le-ltb, is_in_past)

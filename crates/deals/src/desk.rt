@@ -40,7 +40,7 @@ impl From<Telling> for Line {
     }
 }
 
-// One more is told in a deal whose n lines stand in these words.
+// One more is told in a deal whose n lines stand in these words. It's their part of the room and not all of it, as in `lines::own`: what is promised of the other words is that they stay, and not only which lines they are.
 fn note(words: &mut [u64], n: usize, said: Telling)
     requires { (length words.old ≡ 3072) × (n < 1024) }
     ensures { (ss : List Said) → map bare (lines_of words.old (deal_ring n)) ≡ said_lines ss → map bare (lines_of words.new (deal_ring (n + 1))) ≡ said_lines (ss ++ record { op = said.op; told = said.answer } ∷ []) }

@@ -10,7 +10,7 @@ ghost use Rattle.deals.specs.LineUps.{TablesHold, FindsFor, GraphTo, Picked, Qui
 
 use super::Op;
 use super::tables::Tables;
-use clerk::{CLERKS, Clerk};
+use clerk::Clerk;
 use lines::tables::DEAL_LINES;
 use locks::graph::{Pick, WaitGraph};
 use locks::set::ClerkSet;
@@ -54,26 +54,11 @@ impl Op {
 }
 
 impl<'a> Tables<'a> {
-    // Is the deal of clerk e in the way of what clerk c wants.
-    fn other_in_way(&self, c: Clerk, e: Clerk, want: Want) -> bool
-        ensures { result ≡ (not (c == e) && some_bars want (lines_in self.now.room.now e)) }
-    {
-        c != e && in_way(self.lines(e), want)
-    }
-
     // All but c whose deals are in the way of what c wants.
     fn in_ways(&self, c: Clerk, want: Want) -> ClerkSet
         ensures { (k : ℕ) → is_in result k ≡ (nat_lt k 32 && (not (c == k) && some_bars want (lines_in self.now.room.now k))) }
     {
-        let mut set = ClerkSet::none();
-        // The clerks are their numbers: there is no table of them to go over.
-        for number in 0..CLERKS as u32 {
-            let e = Clerk::new(number);
-            if self.other_in_way(c, e, want) {
-                set = set.with(e);
-            }
-        }
-        set
+        ClerkSet::those(|e| e != c && in_way(self.lines(e), want))
     }
 
     // The key from which the clerk's Next would look, if it asks one that isn't turned away: only then must the key that it would find be known.
