@@ -8,6 +8,7 @@ ghost use Rattle.view.specs.Index.{Whole, Passes, Asked, MayChange};
 
 use pages::Gone;
 
+// The room comes beside the index and is not a part of it: between two calls others read and write the lines in it.
 pub trait Index {
     // The pairs that it holds.
     ghost pairs: { Self → List ℕ → List (ℕ × ℕ) };

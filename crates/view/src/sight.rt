@@ -92,11 +92,13 @@ impl<'a> Sight<'a> {
     fn least_of(&self, line: Line, k: u64, best: Option<u64>) -> Option<u64>
         ensures { result ≡ least_line (says_of self.now) k line best }
     {
-        match line {
-            Line::Wrote(key, _) if k < key && is_under(key, best) && self.is_there(key) => Some(
-                key,
-            ),
-            _ => best,
+        let Line::Wrote(key, _) = line else {
+            return best;
+        };
+        if k < key && is_under(key, best) && self.is_there(key) {
+            Some(key)
+        } else {
+            best
         }
     }
 

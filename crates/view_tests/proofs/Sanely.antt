@@ -112,6 +112,20 @@ whole n v w a b = ap (take n) (ap (λ x. v ++ x) (drop_all (length v) w (omega a
 pub same_seen : (t u : Pairs) (a b : List Line) → u ≡ t → b ≡ a → with_lines u b ≡ with_lines t a
 same_seen t u a b e f = ap (λ x. with_lines x b) e ∙ ap (with_lines t) f
 
+-- the index was asked, over the whole slice a of the room w, and left it as v
+module _ (t u : Pairs) (n : ℕ) (w a v : List ℕ) (q : Ring) (lent : a ≡ w) (full : length w ≡ n) (same : u ≡ t) (long : length v ≡ length a) (kept : tables v ≡ tables a) where
+  pub asked_whole : take n (v ++ drop (length v) w) ≡ v
+  asked_whole = whole n v w (long ∙ (ap length lent ∙ full)) full
+
+  pub asked_sane : (ns : List ℕ) → Sane t w ns q → Sane u (take n (v ++ drop (length v) w)) ns q
+  asked_sane ns s = subst (λ x. Sane u x ns q) (sym asked_whole) (sane_on t u a v ns q same long kept (subst (λ x. Sane t x ns q) (sym lent) s))
+
+  pub asked_queue : queue_lines (take n (v ++ drop (length v) w)) q ≡ queue_lines w q
+  asked_queue = ap (λ x. queue_lines x q) asked_whole ∙ (same_queue a v long kept q ∙ ap (λ x. queue_lines x q) lent)
+
+  pub asked_seen : with_lines u (queue_lines (take n (v ++ drop (length v) w)) q) ≡ with_lines t (queue_lines w q)
+  asked_seen = same_seen t u (queue_lines w q) (queue_lines (take n (v ++ drop (length v) w)) q) same asked_queue
+
 pub nothing_seen : (t : Pairs) (w : List ℕ) (r : Ring) → t ≡ [] → r.count ≡ 0 → with_lines t (queue_lines w r) ≡ []
 nothing_seen t w r e z = ap (λ x. with_lines x (queue_lines w r)) e ∙ ap (with_lines []) (no_queue w r z)
 

@@ -167,7 +167,8 @@ impl Play {
         Ok(self)
     }
 
-    // Shows what the deal sees above k.
+    // Shows what the deal sees above k. One function for both questions would have to repeat of a closure all that
+    // `look` and `next_pair` say.
     pub fn show_above(
         mut self,
         rt: &HostRuntime,
