@@ -20,6 +20,7 @@ ghost use Rattle.deals.specs.Examples.{ExamplesHold};
 
 pub use office::{Office, open};
 
+// What is asked and told stands as the statements fix it, without further derives.
 #[derive(Clone, Copy)]
 pub enum Op {
     Get(u64),

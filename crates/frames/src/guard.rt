@@ -50,7 +50,7 @@ impl Pinned<'_> {
     }
 }
 
-/// A changed frame, which stands in the batch.
+/// A changed frame, which stands in the batch. It looks like a pin, and promises another thing in each clause.
 #[derive(Drop)]
 pub struct Writable<'a> {
     part: &'a mut [u64],

@@ -128,6 +128,14 @@ pub fn frame(part: &[u64], slot: Slot) -> &[u64]
     pages::page(part, slot.number())
 }
 
+/// Copies the words of a frame, whether or not the table is in order.
+pub fn copy_out(part: &[u64], slot: Slot, into: &mut [u64])
+    requires { (Sized part.now) × (length into.old ≡ 512) }
+    ensures { into.new ≡ frame_in (cache_of part.now).frames slot }
+{
+    into.copy_from_slice(frame(part, slot));
+}
+
 pub fn put_frame(part: &mut [u64], slot: Slot, words: &[u64])
     requires { (Sized part.old) × (length words.now ≡ 512) }
     ensures cache { cache_of part.new ≡ with_frames (cache_of part.old) (placed (cache_of part.old).frames slot words.now) }
@@ -136,7 +144,7 @@ pub fn put_frame(part: &mut [u64], slot: Slot, words: &[u64])
     pages::put_page(part, slot.number(), words);
 }
 
-/// Noughts in the whole table page.
+/// Noughts in the whole table page. This and the next are one call of `fill` each, and say another thing of the table.
 pub fn clear(part: &mut [u64])
     requires { Sized part.old }
     ensures { cache_of part.new ≡ cleared (cache_of part.old).frames }

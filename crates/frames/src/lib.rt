@@ -14,7 +14,7 @@ mod tests;
 
 pub use change::FramesMut;
 pub use guard::{Pinned, Writable, enter, pin};
-pub use layout::{BATCH, FRAME_COUNT, PART_WORDS, frame};
+pub use layout::{BATCH, FRAME_COUNT, PART_WORDS, copy_out, frame};
 pub use look::Frames;
 pub use pages::PAGE_WORDS;
 pub use slot::Slot;

@@ -63,7 +63,7 @@ impl<'a> Frames<'a> {
         requires { length into.old ≡ 512 }
         ensures { into.new ≡ frame_in self.now.frames slot }
     {
-        into.copy_from_slice(layout::frame(self.part, slot));
+        layout::copy_out(self.part, slot, into);
     }
 
     /// How many frames are changed.

@@ -26,6 +26,7 @@ fn fetch(frames: &mut FramesMut<'_>, p: u64) -> Option<Slot>
 fn fetch_all(frames: &mut FramesMut<'_>, first: u64, last: u64)
     requires { 0 < first }
 {
+    // The number is a page that is asked for, and no index.
     for p in first..last {
         let _ = fetch(frames, p);
     }
@@ -101,6 +102,7 @@ fn changed_and_pinned_stay(rt: HostRuntime) {
 fn a_full_batch(rt: HostRuntime) -> Result<(), Fail> {
     let mut part = [7; PART_WORDS];
     let mut frames = FramesMut::reset(part.as_mut_slice());
+    // The number is a page that is asked for, and no index.
     for p in 1..70 {
         let _ = fetch_changed(&mut frames, p);
     }

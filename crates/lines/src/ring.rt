@@ -57,6 +57,8 @@ impl Ring {
         Lines { words, ring: self }
     }
 
+    // A ring can be made of any numbers, so each call that is lent the words asks that they hold it.
+
     // One more line at the end of a ring that has room for it.
     pub fn push(self, words: &mut [u64], line: Line) -> Ring
         requires { (Holds words.old self) × (self.count < self.cap) }

@@ -23,6 +23,7 @@ impl ClerkSet {
         ensures past { (k : ℕ) → 32 ≤ k → is_in result k ≡ false }
     {
         let mut set = ClerkSet::none();
+        // By number: the clerks stand in no list.
         for number in 0..CLERKS as u32 {
             let clerk = Clerk::new(number);
             if choose(clerk) {

@@ -12,6 +12,7 @@ fn ring_of(n: u32) -> WaitGraph
     requires { (0 < n) × (n ≤ 32) }
 {
     let mut graph = WaitGraph::none();
+    // By number: the clerks stand in no list.
     for c in 0..n {
         let next = if c + 1 < n { c + 1 } else { 0 };
         graph.put(Clerk::new(c), ClerkSet::none().with(Clerk::new(next)));

@@ -110,6 +110,7 @@ mod tests {
         requires { F.IsAlwaysCallable trial }
     {
         let (mut was_old, mut was_new) = (false, false);
+        // A choice is a number, and no index.
         for choice in 0..16 {
             let x = trial(choice)?;
             assert!(rt; x == old || x == new);
@@ -170,6 +171,7 @@ mod tests {
     // A table of one entry is emptied by the second write: the first is then the oldest that may be left.
     #[test]
     fn full_table(rt: HostRuntime) -> Result<(), Fail> {
+        // A choice is a number, and no index.
         for choice in 0..8 {
             let mut slots = Slots::<1>::new();
             let mut d = slots.disk();

@@ -47,8 +47,10 @@ const DONE: usize = 74;
 
 const OWN: usize = 75;
 
+// Where a page's records begin. That there are as many of them is chance.
 const RECORDS: usize = 128;
 
+// The tags of records, which a page's words have in place of a type. Only the two conversions below know them.
 const TAG_PUT: u64 = 1;
 
 const TAG_DROP: u64 = 2;

@@ -39,7 +39,7 @@ impl Store {
         self.fresh || (images && !self.lasted)
     }
 
-    // What the next head counts on lasts; with `images`, those too.
+    // What the next head counts on lasts; with `images`, those too. It's a question with two answers and no choice of a step.
     pub(crate) fn make_last<D: Device>(&mut self, d: &mut D, images: bool) -> Result<(), Gone>
         requires asks { 0 < (D.medium d.old).left }
         ensures settles { (g : Head) → Ready (D.medium d.old) g self.old.fresh → Settles (D.medium d.old) g self.old images (is_ok result) (D.medium d.new) self.new }

@@ -23,7 +23,7 @@ pub(crate) fn load_scratch<D: Device>(d: &mut D, p: u64, part: &mut Part) -> Res
     d.read(p, &mut part[SCRATCH..])
 }
 
-// The head into the part.
+// The head into the part. Nothing is known of it before, so it may leave alone less than `load_scratch`.
 fn load_head<D: Device>(d: &mut D, part: &mut Part) -> Result<(), Gone>
     requires ask { MayAsk (D.medium d.old) 0 }
     ensures reads { Reads (D.medium d.old) 0 (next_of part.new) (is_ok result) (D.medium d.new) }
@@ -54,6 +54,7 @@ fn redo<D: Device>(d: &mut D, part: &mut Part) -> Result<(), Gone>
     ensures tied { D.tie d.new ≡ D.tie d.old }
 {
     let n = next_head(part).batch_len();
+    // The head is read again for each, since the copy goes by way of the part.
     for k in 0..n {
         let head = next_head(part);
         let from = slot_in(head.region(), k);

@@ -12,7 +12,7 @@ use pages::PAGE_WORDS;
 // The first data page of the disk.
 const DATA: u64 = 393;
 
-// Brings a page that was read into a frame.
+// Brings a page that was read into a frame. This and the two below take one step of the frames each, and promise each another thing.
 fn keep_in(part: &mut Part, slot: Slot, p: u64, words: &[u64])
     requires table { Framed (frames_of part.old) }
     requires fits { (0 < p) × (length words.now ≡ 512) }

@@ -59,6 +59,7 @@ fn next_at<S: PageStore>(s: &mut S, p: u64, l: u64, k: u64) -> Result<Option<Ent
     Ok(None)
 }
 
+// Two questions that read alike: they differ in what they find and in how many askings that takes.
 impl TreeRoot {
     // The word at k.
     pub fn get<S: PageStore>(self, s: &mut S, k: u64) -> Result<Option<u64>, Gone>

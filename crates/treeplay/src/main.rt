@@ -83,6 +83,7 @@ fn nodes_at_most(n: usize) -> usize {
 struct Game<'a, 'b, 'c> {
     tree: MemTree<'a, 'b>,
     model: &'c mut [u64],
+    // what the game has found so far: a result, and no flag for another field
     fine: bool,
 }
 
@@ -151,6 +152,7 @@ impl<'a, 'b, 'c> Game<'a, 'b, 'c> {
         requires { Ready self.old }
         ensures { Ready self.new }
     {
+        // The turn is no index: it gives the key and the word.
         for i in 0..KEYS {
             let k = match order {
                 Order::Rising => i,

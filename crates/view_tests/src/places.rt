@@ -2,6 +2,8 @@
 ghost use Rattle.std.specs.Prelude.{◌≡◌, ◌==◌, position, find as find_first, nat_lt, nat_le};
 ghost use Rattle.node.specs.Pairs.{find, above};
 
+// The two that follow are one call of the library each, with another test.
+
 // The first pair with this key.
 pub fn place_of(items: &[(u64, u64)], k: u64) -> Option<usize>
     ensures { result ≡ position (λ e. e.0 == k) items.now }
