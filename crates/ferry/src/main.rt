@@ -87,20 +87,18 @@ fn main(rt: HostRuntime) -> io::Result<()> {
     let mut saved = [Entry::BLANK; SAVED];
     let mut cuts = [Due::BLANK; CUTS];
     let mut room = [0u64; ROOM_WORDS];
-    let mut stage = Stage {
-        disk: MemDisk::new(
-            shown.as_mut_slice(),
-            saved.as_mut_slice(),
-            cuts.as_mut_slice(),
-        ),
-        room: room.as_mut_slice(),
-        out: Printer {
-            rt: &rt,
-            result: Ok(()),
-        },
+    let mut disk = MemDisk::new(
+        shown.as_mut_slice(),
+        saved.as_mut_slice(),
+        cuts.as_mut_slice(),
+    );
+    let mut printer = Printer {
+        rt: &rt,
+        result: Ok(()),
     };
+    let mut stage = Stage::new(&mut disk, room.as_mut_slice(), &mut printer);
     let Some(player) = Player::begin(&mut stage) else {
-        return stage.out.result;
+        return printer.result;
     };
     let mut script = Script {
         stage,
@@ -110,5 +108,5 @@ fn main(rt: HostRuntime) -> io::Result<()> {
     };
     io::copy(&mut rt.stdin(), &mut script)?;
     script.end();
-    script.stage.out.result
+    printer.result
 }

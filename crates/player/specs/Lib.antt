@@ -1,3 +1,4 @@
 pub mod Cutting
+pub mod Loans
 pub mod Seating
 pub mod Turning

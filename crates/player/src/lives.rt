@@ -1,5 +1,6 @@
 // The office's lives: each begins with an opening and ends with a cut.
 ghost use Rattle.std.specs.Prelude.{◌≡◌, ℕ, ◌+◌, ◌<◌, ◌≤◌, false, IfSome, is_ok, nat_le};
+ghost use Rattle.player.specs.Loans.{SameLoans};
 
 use crate::sink::Sink;
 use crate::stage::Stage;
@@ -29,17 +30,19 @@ pub struct Life {
 
 impl<D: Power, S> Stage<'_, D, S> {
     fn open_office(&mut self) -> Result<Office, Gone>
-        ensures { is_ok result ≡ false → (D.disk self.new.disk).on ≡ false }
+        ensures gone { is_ok result ≡ false → (D.disk self.new.disk.now).on ≡ false }
+        ensures lent { SameLoans self.old self.new }
     {
         self.disk.allow(ASKS_TO_OPEN);
-        open(&mut self.disk, self.room)
+        open(self.disk, self.room)
     }
 }
 
 impl<D: Power, S: Sink> Stage<'_, D, S> {
     // The life after so many; a later one where the power goes while it opens. None where it was the last.
     pub fn next_life(&mut self, past: u64) -> Option<Life>
-        ensures { IfSome result (λ life. (past < life.number) × (life.turns ≡ 0)) }
+        ensures later { IfSome result (λ life. (past < life.number) × (life.turns ≡ 0)) }
+        ensures lent { SameLoans self.old self.new }
     {
         // It counts lives and reads no list; each opening changes the stage.
         for before in past..LAST_LIFE {
@@ -87,10 +90,11 @@ impl Life {
         requires { self.old.turns < 16777215 }
         ensures number { self.new.number ≡ self.old.number }
         ensures turns { self.new.turns ≡ self.old.turns + 1 }
-        ensures gone { is_ok result ≡ false → (D.disk stage.new.disk).on ≡ false }
+        ensures gone { is_ok result ≡ false → (D.disk stage.new.disk.now).on ≡ false }
+        ensures lent { SameLoans stage.old stage.new }
     {
         self.turns += 1;
         stage.disk.allow(ASKS_IN_A_TURN);
-        self.office.turn(&mut stage.disk, stage.room)
+        self.office.turn(stage.disk, stage.room)
     }
 }

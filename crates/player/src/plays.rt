@@ -5,6 +5,7 @@ ghost use Rattle.script.specs.declared.Output.TheVariants.{Busy, BadLine};
 ghost use Rattle.script.specs.Text.{Fits, text_of};
 ghost use Rattle.player.specs.declared.seats.Seat.TheVariants.{Free};
 ghost use Rattle.player.specs.Seating.{is_asked, asked, nobody};
+ghost use Rattle.player.specs.Loans.{SameLoans};
 ghost use Rattle.player.specs.Turning.{HasTurns, Same, turns_of, lives_of, after_turn, Waits};
 
 use crate::lives::Life;
@@ -48,7 +49,9 @@ pub struct Player {
 
 impl Player {
     // The first life; None where the power went in each.
-    pub fn begin<D: Power, S: Sink>(stage: &mut Stage<'_, D, S>) -> Option<Player> {
+    pub fn begin<D: Power, S: Sink>(stage: &mut Stage<'_, D, S>) -> Option<Player>
+        ensures lent { SameLoans stage.old stage.new }
+    {
         let life = stage.next_life(0)?;
         Some(Player {
             life: Some(life),
@@ -84,7 +87,8 @@ impl Player {
         ensures seats { self.new.seats ≡ after_turn result self.old.seats }
         ensures turns { turns_of self.new.life ≡ turns_of self.old.life + 1 }
         ensures life { Same self.old self.new }
-        ensures gone { IsErr result → (D.disk stage.new.disk).on ≡ false }
+        ensures gone { IsErr result → (D.disk stage.new.disk.now).on ≡ false }
+        ensures lent { SameLoans stage.old stage.new }
     {
         let told = self.life.as_mut().unwrap().turn(stage)?;
         if let Some((who, answer)) = told {
@@ -95,9 +99,10 @@ impl Player {
 
     // The power has gone: it comes back, and the office opens again with nobody's deal.
     fn restart<D: Power, S: Sink>(&mut self, stage: &mut Stage<'_, D, S>)
-        requires { (D.disk stage.old.disk).on ≡ false }
+        requires { (D.disk stage.old.disk.now).on ≡ false }
         ensures seats { self.new.seats ≡ nobody }
         ensures later { IfSome self.new.life (λ life. (lives_of self.old.life < life.number) × (life.turns ≡ 0)) }
+        ensures lent { SameLoans stage.old stage.new }
     {
         stage.come_back();
         self.seats = Seats::all_free();
@@ -112,7 +117,8 @@ impl Player {
         stage: &mut Stage<'_, D, S>,
     ) -> Result<Option<Answer>, Gone>
         requires { HasTurns 64 self.old.life }
-        ensures { Waits result self.old self.new }
+        ensures waited { Waits result self.old self.new }
+        ensures lent { SameLoans stage.old stage.new }
     {
         for _turn in 0..PATIENCE {
             match self.turn(stage) {
@@ -135,9 +141,10 @@ impl Player {
         op: Op,
         stage: &mut Stage<'_, D, S>,
     ) -> Result<(), Refused>
-        ensures busy { is_asked (slice_index_or self.old.seats who Free) ≡ true → S.said stage.old.out (Busy who) stage.new.out × (self.new ≡ self.old) × IsOk result }
+        ensures busy { is_asked (slice_index_or self.old.seats who Free) ≡ true → S.said stage.old.out.now (Busy who) stage.new.out.now × (self.new ≡ self.old) × IsOk result }
         ensures played { is_asked (slice_index_or self.old.seats who Free) ≡ false → IsOk result ↔ HasTurns 64 self.old.life }
-        ensures refused { OnErr result ((self.new ≡ self.old) × (stage.new.out ≡ stage.old.out)) }
+        ensures refused { OnErr result ((self.new ≡ self.old) × (stage.new.out.now ≡ stage.old.out.now)) }
+        ensures lent { SameLoans stage.old stage.new }
     {
         if self.seats.is_busy(who) {
             stage.out.put(Output::Busy(who.number()));
@@ -161,7 +168,8 @@ impl Player {
         stage: &mut Stage<'_, D, S>,
     ) -> Result<(), Refused>
         ensures played { IsOk result ↔ HasTurns n self.old.life }
-        ensures refused { OnErr result ((self.new ≡ self.old) × (stage.new.out ≡ stage.old.out)) }
+        ensures refused { OnErr result ((self.new ≡ self.old) × (stage.new.out.now ≡ stage.old.out.now)) }
+        ensures lent { SameLoans stage.old stage.new }
     {
         self.need_turns(n)?;
         for _turn in 0..n {
@@ -186,9 +194,10 @@ impl Player {
         choice: u64,
         stage: &mut Stage<'_, D, S>,
     ) -> Result<(), Refused>
-        ensures later { 0 < after → (self.new ≡ self.old) × (stage.new.out ≡ stage.old.out) }
+        ensures later { 0 < after → (self.new ≡ self.old) × (stage.new.out.now ≡ stage.old.out.now) }
         ensures soon { after ≡ 0 → OnOk result (self.new.seats ≡ nobody) }
-        ensures refused { OnErr result ((self.new ≡ self.old) × (stage.new.out ≡ stage.old.out)) }
+        ensures refused { OnErr result ((self.new ≡ self.old) × (stage.new.out.now ≡ stage.old.out.now)) }
+        ensures lent { SameLoans stage.old stage.new }
     {
         stage.disk.set_cut(after, choice)?;
         if after == 0 {
@@ -204,7 +213,8 @@ impl Player {
         op: Op,
         stage: &mut Stage<'_, D, S>,
     ) -> Option<Answer>
-        ensures { IfSome result (λ a. Waits (Ok (Some a)) self.old self.new) }
+        ensures waited { IfSome result (λ a. Waits (Ok (Some a)) self.old self.new) }
+        ensures lent { SameLoans stage.old stage.new }
     {
         if self.seats.is_busy(reader) {
             return None;
@@ -215,7 +225,9 @@ impl Player {
     }
 
     // Prints the pairs above key 0, until the reader is told anything else than a pair.
-    fn read_on<D: Power, S: Sink>(&mut self, reader: Clerk, stage: &mut Stage<'_, D, S>) {
+    fn read_on<D: Power, S: Sink>(&mut self, reader: Clerk, stage: &mut Stage<'_, D, S>)
+        ensures lent { SameLoans stage.old stage.new }
+    {
         let mut key: u64 = 0;
         // the deal has begun with a look at key 0
         let mut readings: u64 = 1;
@@ -234,7 +246,8 @@ impl Player {
 
     // Refused where too few turns are left to begin.
     fn play_book<D: Power, S: Sink>(&mut self, stage: &mut Stage<'_, D, S>) -> Result<(), Refused>
-        ensures refused { OnErr result ((self.new ≡ self.old) × (stage.new.out ≡ stage.old.out)) }
+        ensures refused { OnErr result ((self.new ≡ self.old) × (stage.new.out.now ≡ stage.old.out.now)) }
+        ensures lent { SameLoans stage.old stage.new }
     {
         let Some(reader) = self.seats.first_free() else {
             stage.out.put(Output::End);
@@ -262,8 +275,9 @@ impl Player {
         stage: &mut Stage<'_, D, S>,
     ) -> Result<(), Refused>
         requires { Fits command }
-        ensures refused { OnErr result ((self.new ≡ self.old) × (stage.new.out ≡ stage.old.out)) }
+        ensures refused { OnErr result ((self.new ≡ self.old) × (stage.new.out.now ≡ stage.old.out.now)) }
         ensures ended { IsNone self.old.life → IsErr result }
+        ensures lent { SameLoans stage.old stage.new }
     {
         if self.life.is_none() {
             return Err(Refused);
@@ -283,7 +297,8 @@ impl Player {
         stage: &mut Stage<'_, D, S>,
     ) -> Result<(), Refused>
         ensures bad { ((c : Asks) → Fits c → line.now ≢ text_of c) → IsErr result }
-        ensures refused { OnErr result ((self.new ≡ self.old) × (stage.new.out ≡ stage.old.out)) }
+        ensures refused { OnErr result ((self.new ≡ self.old) × (stage.new.out.now ≡ stage.old.out.now)) }
+        ensures lent { SameLoans stage.old stage.new }
     {
         let command = Command::try_from(line)?;
         self.play(command, stage)
@@ -296,7 +311,8 @@ impl Player {
         line: &[u8],
         stage: &mut Stage<'_, D, S>,
     )
-        ensures bad { ((c : Asks) → Fits c → line.now ≢ text_of c) → S.said stage.old.out (BadLine number) stage.new.out × (self.new ≡ self.old) }
+        ensures bad { ((c : Asks) → Fits c → line.now ≢ text_of c) → S.said stage.old.out.now (BadLine number) stage.new.out.now × (self.new ≡ self.old) }
+        ensures lent { SameLoans stage.old stage.new }
     {
         if self.play_text(line, stage).is_err() {
             stage.out.put(Output::BadLine(number));

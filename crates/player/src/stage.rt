@@ -1,22 +1,33 @@
 // What the office plays on.
 ghost use Rattle.std.specs.Prelude.{◌≡◌, false};
+ghost use Rattle.player.specs.Loans.{SameLoans};
 
 use crate::sink::Sink;
 use deals::Power;
 use script::Output;
 
-// The disk, the room in memory, and where what is printed goes.
+// The disk, the room in memory, and where what is printed goes. All three are lent.
 #[derive(Drop)]
 pub struct Stage<'a, D, S> {
-    pub disk: D,
+    pub disk: &'a mut D,
     pub room: &'a mut [u64],
-    pub out: S,
+    pub out: &'a mut S,
+}
+
+impl<'a, D, S> Stage<'a, D, S> {
+    // One lifetime stands for the three loans.
+    pub fn new(disk: &'a mut D, room: &'a mut [u64], out: &'a mut S) -> Stage<'a, D, S>
+        ensures { (result.disk ≡ disk.entry) × (result.room ≡ room.entry) × (result.out ≡ out.entry) }
+    {
+        Stage { disk, room, out }
+    }
 }
 
 impl<D: Power, S: Sink> Stage<'_, D, S> {
     // The power has gone: that is told, and it comes back.
     pub fn come_back(&mut self)
-        requires { (D.disk self.old.disk).on ≡ false }
+        requires { (D.disk self.old.disk.now).on ≡ false }
+        ensures lent { SameLoans self.old self.new }
     {
         self.out.put(Output::Cut);
         self.disk.back(self.room);
