@@ -13,6 +13,7 @@ pub const CLERKS: usize = 32;
 /// One of the clerks. Clauses see the number.
 #[derive(Clone, Copy, Debug, PartialEq, Eq, PartialOrd, Ord, Hash)]
 pub struct Clerk {
+    // A number of its own type, as the statements have it in 32 bits.
     number: u32,
 }
 
@@ -35,6 +36,7 @@ impl Clerk {
         Clerk { number }
     }
 
+    /// The clerk's number.
     pub fn number(self) -> u32
         ensures is { result ≡ self }
         ensures low { result < 32 }

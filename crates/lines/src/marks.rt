@@ -11,7 +11,7 @@ pub fn marks_in(lines: Lines) -> usize
     ensures is { result ≡ marks_in lines.entry }
     ensures few { result ≤ length lines.entry }
 {
-    // No ring has more lines than a number can count.
+    // Names the length for the check: no ring has more lines than a number can count.
     let _most = lines.len();
     lines.filter(|line| matches!(line, Line::Marked)).count()
 }

@@ -1,5 +1,5 @@
 // The lines of one deal, in the room. A deal is named by its clerk's place in the tables.
-// How many lines it has, the caller reads from a table of its own, so the two come as they are and not in a struct.
+// The place and the count come as two plain numbers, since that is how the clauses on a deal's view name them.
 ghost use Rattle.std.specs.Prelude.{◌≡◌, ◌+◌, ◌<◌, min, [], ◌∷◌, ◌++◌};
 ghost use Rattle.lines.specs.Changes.{ChangesTo};
 ghost use Rattle.lines.specs.Marks.{marks_in, backed};

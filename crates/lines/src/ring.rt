@@ -109,6 +109,14 @@ impl Ring {
         (read_line(words, self.spot(last)), rest)
     }
 
+    // Writes the line i of the ring, and no other.
+    pub fn set(self, words: &mut [u64], i: usize, line: Line)
+        requires { (Holds words.old self) × (i < self.count) }
+        ensures { lines_of words.new self ≡ slice_set (lines_of words.old self) i line }
+    {
+        write_line(words, self.spot(i), line);
+    }
+
     // Each line becomes what `change` makes of it, from the first on.
     pub fn change_all<F: FnMut(Line) -> Line>(self, words: &mut [u64], mut change: F)
         requires holds { Holds words.old self }
@@ -117,9 +125,8 @@ impl Ring {
     {
         // By number, since each line is written back to where it was read.
         for i in 0..self.count {
-            let p = self.spot(i);
-            let line = change(read_line(words, p));
-            write_line(words, p, line);
+            let line = change(read_line(words, self.spot(i)));
+            self.set(words, i, line);
         }
     }
 }

@@ -3,7 +3,7 @@ use Rattle.lines.specs.declared.line.Line.TheVariants.{Idle}
 use Rattle.lines.specs.Lines.{line_at}
 use Rattle.lines.specs.Rings.{lines_of}
 use Rattle.lines.proofs.Changes.{turn, all_done}
-use Rattle.lines.proofs.Circle.{length_lines, at_line, set_lines}
+use Rattle.lines.proofs.Circle.{length_lines, at_line}
 use Rattle.lines.proofs.ring.Ring.change_all.Goals as goal
 
 pub loop-i-preserved : goal.loop-i-preserved
@@ -12,14 +12,11 @@ loop-i-preserved g c =
     let i = c.loop-i.i in
     let w = c.args.words.now in
     let u = c.loop-i.words in
-    let v = c.write_line.new.words in
-    let is = c.spot-p.ensures.is in
-    let e = c.write_line.ensures in
-    let all = set_lines u v r i c.change-line.result (omega arith) (omega arith) (ap (line_at v) (sym is) ∙ e.written) (λ q d. e.others q (λ k. d (k ∙ is))) (omega arith) in
+    let is = c.spot.ensures.is in
     let x = c.read_line.ensures ∙ ap (line_at u) is ∙ sym (at_line u r i Idle (omega arith)) in
     let t = turn (goal.F-step g) c.args.change c.loop-i.change (lines_of w r) (lines_of u r) i (omega (arith, length_lines w r)) (length_lines u r ∙ sym (length_lines w r)) c.loop-i.invariant.done c.loop-i.invariant.rest
     c.read_line.result c.change-line.result c.change-line.new.self x c.change-line.ensures in
-    record { callable = search of_calls; done = rw all t.0; rest = rw all t.1 }
+    record { callable = search of_calls; done = rw c.set.ensures t.0; rest = rw c.set.ensures t.1 }
 
 pub returns : goal.returns
 returns g c =
