@@ -14,7 +14,7 @@ pub struct Tables<'a> {
     ghost sound: { Sound room.now },
 }
 
-// Lent to be changed. It is no `Tables`, which are lent to many at a time.
+// Lent to be changed. It is no `Tables`, which are lent to many at a time. Each change says that the room is still the one that was lent (`SameRoom`), as whoever lends it must know.
 #[derive(Drop)]
 pub struct TablesMut<'a> {
     pub room: &'a mut [u64],
@@ -22,7 +22,14 @@ pub struct TablesMut<'a> {
 }
 
 impl<'a> Tables<'a> {
-    // How many lines the clerk's deal has.
+    pub fn new(room: &'a [u64]) -> Tables<'a>
+        requires { Sound room.now }
+        ensures { result.room.now ≡ room.now }
+    {
+        Tables { room }
+    }
+
+    // How many lines the clerk's deal has. That the clerk is one of the 32 stands beside, since a caller sees only the number of a `Clerk`.
     pub(crate) fn count(&self, c: Clerk) -> usize
         ensures is { result ≡ count_at self.now.room.now c }
         ensures few { result ≤ 1024 }
@@ -41,6 +48,14 @@ impl<'a> Tables<'a> {
 }
 
 impl<'a> TablesMut<'a> {
+    pub fn new(room: &'a mut [u64]) -> TablesMut<'a>
+        requires { Sound room.old }
+        ensures same { result.room.now ≡ room.old }
+        ensures lent { result.room.ghost_name ≡ room.entry.ghost_name }
+    {
+        TablesMut { room }
+    }
+
     // As they stand, to be read.
     pub fn read(&self) -> Tables<'_>
         ensures { result.room.now ≡ self.now.room.now }
