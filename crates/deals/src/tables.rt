@@ -29,11 +29,10 @@ impl<'a> Tables<'a> {
         Tables { room }
     }
 
-    // How many lines the clerk's deal has. That the clerk is one of the 32 stands beside, since a caller sees only the number of a `Clerk`.
+    // How many lines the clerk's deal has.
     pub(crate) fn count(&self, c: Clerk) -> usize
         ensures is { result ≡ count_at self.now.room.now c }
         ensures few { result ≤ 1024 }
-        ensures clerk { c < 32 }
     {
         self.room[COUNTS_AT + c.index()] as usize
     }
