@@ -7,6 +7,7 @@ pub mod Rows
 pub mod Kinds
 pub mod Tables
 pub mod LineUps
+pub mod Loans
 pub mod Refusals
 pub mod Examples
 pub mod Stub

@@ -2,6 +2,7 @@
 ghost use Rattle.std.specs.Prelude.{◌≡◌};
 ghost use Rattle.deals.specs.Tables.{op_of, op_at, OnlyAsk};
 ghost use Rattle.deals.specs.Kinds.{kind_of};
+ghost use Rattle.deals.specs.Loans.{SameRoom};
 
 use super::Op;
 use super::layout::{ASK_WORDS, ASKS_AT};
@@ -89,8 +90,9 @@ impl<'a> Tables<'a> {
 }
 
 impl<'a> TablesMut<'a> {
+    // The clerk asks this from now on.
     pub fn write_op(&mut self, c: Clerk, o: Op)
-        ensures lent { self.new.room.ghost_name ≡ self.old.room.ghost_name }
+        ensures lent { SameRoom self.old self.new }
         ensures written { op_at self.new.room.now c ≡ o }
         ensures others { OnlyAsk c self.old.room.now self.new.room.now }
     {

@@ -5,6 +5,7 @@ ghost use Rattle.lines.specs.Tables.{deal_ring};
 ghost use Rattle.deals.specs.Deals.{Said, State, Now, Book, set_clerk};
 ghost use Rattle.deals.specs.Rows.{line_for, said_lines, bare};
 ghost use Rattle.deals.specs.Tables.{Desk, OnlyDeals, count_at};
+ghost use Rattle.deals.specs.Loans.{SameRoom};
 
 use super::layout::COUNTS_AT;
 use super::tables::TablesMut;
@@ -56,7 +57,7 @@ impl<'a> TablesMut<'a> {
     // The clerk, whose deal has fewer than 1,024 lines, is told this.
     pub fn tell(&mut self, c: Clerk, said: Telling)
         requires { count_at self.old.room.now c < 1024 }
-        ensures lent { self.new.room.ghost_name ≡ self.old.room.ghost_name }
+        ensures lent { SameRoom self.old self.new }
         ensures deals { (s : State) (n : Now) → Desk self.old.room.now s → Desk self.new.room.now (set_clerk c ((s.clerk c).deal ++ record { op = said.op; told = said.answer } ∷ []) n s) }
         ensures others { OnlyDeals self.old.room.now self.new.room.now }
     {
@@ -70,7 +71,7 @@ impl<'a> TablesMut<'a> {
 
     // The clerk's deal is over.
     pub(crate) fn forget(&mut self, c: Clerk)
-        ensures lent { self.new.room.ghost_name ≡ self.old.room.ghost_name }
+        ensures lent { SameRoom self.old self.new }
         ensures deals { (s : State) (b : Book) (n : Now) → Desk self.old.room.now s → Desk self.new.room.now (set_clerk c [] n (record { book = b; clerk = s.clerk })) }
         ensures others { OnlyDeals self.old.room.now self.new.room.now }
     {

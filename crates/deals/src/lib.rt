@@ -45,7 +45,7 @@ pub enum Answer {
     Clash,
 }
 
-// The power has gone.
+// The power has gone. As the statements fix it; below `deals` it is `pages::Gone`.
 #[derive(Clone, Copy)]
 pub struct Gone;
 

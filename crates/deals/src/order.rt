@@ -2,6 +2,7 @@
 ghost use Rattle.std.specs.Prelude.{◌≡◌, ℕ, ◌+◌, ◌-◌, ◌<◌, ◌≤◌, [], ◌∷◌, ◌++◌, length, take, slice_index};
 ghost use Rattle.std.specs.List.{remove};
 ghost use Rattle.deals.specs.Tables.{OnlyOrder, waiting_in, order_of};
+ghost use Rattle.deals.specs.Loans.{SameRoom};
 
 use super::layout::{ORDER_AT, WAITING_AT};
 use super::tables::{Tables, TablesMut};
@@ -32,7 +33,8 @@ impl<'a> Tables<'a> {
     #[tactic(auto, using(crate::proofs::Orders::order_at))]
     pub fn who_at(&self, i: usize) -> Clerk
         requires { i < waiting_in self.now.room.now }
-        ensures { result ≡ slice_index (order_of self.now.room.now) i }
+        ensures is { result ≡ slice_index (order_of self.now.room.now) i }
+        ensures low { result < 32 }
     {
         Clerk::new(self.room[ORDER_AT + i] as u32)
     }
@@ -50,7 +52,7 @@ impl<'a> TablesMut<'a> {
     // One has asked, and stands last.
     pub fn join(&mut self, who: Clerk)
         requires { waiting_in self.old.room.now < 32 }
-        ensures lent { self.new.room.ghost_name ≡ self.old.room.ghost_name }
+        ensures lent { SameRoom self.old self.new }
         ensures order { order_of self.new.room.now ≡ order_of self.old.room.now ++ who ∷ [] }
         ensures others { OnlyOrder self.old.room.now self.new.room.now }
     {
@@ -63,7 +65,7 @@ impl<'a> TablesMut<'a> {
     // The one at this place is served, and the others close up.
     pub fn leave(&mut self, place: usize)
         requires { place < waiting_in self.old.room.now }
-        ensures lent { self.new.room.ghost_name ≡ self.old.room.ghost_name }
+        ensures lent { SameRoom self.old self.new }
         ensures order { order_of self.new.room.now ≡ remove (order_of self.old.room.now) place }
         ensures others { OnlyOrder self.old.room.now self.new.room.now }
     {

@@ -4,6 +4,7 @@ ghost use Rattle.deals.specs.Deals.{State, Book, Quiet, Under, set_clerk};
 ghost use Rattle.deals.specs.Promise.{can};
 ghost use Rattle.deals.specs.Tables.{count_at, waiting_in, rest_of};
 ghost use Rattle.deals.specs.LineUps.{TablesHold, Serves};
+ghost use Rattle.deals.specs.Loans.{OnlyTables};
 ghost use Rattle.deals.specs.Ages.{IdleTurn, TurnGoes, OneTold, StaysYoung};
 
 use super::desk::Telling;
@@ -18,6 +19,7 @@ pub trait Receipt {
     fn spend(self);
 }
 
+// That the one picked stands in the order is asked by each function that serves it, as the bound of an index is: the order is another after each call.
 impl<'a> TablesMut<'a> {
     // The tables of a room in which no clerk has a deal, or asks anything.
     pub fn clear(room: &'a mut [u64]) -> TablesMut<'a>
@@ -34,9 +36,8 @@ impl<'a> TablesMut<'a> {
     // A clerk asks, who has nothing under way.
     pub fn take_in(&mut self, who: Clerk, o: Op)
         requires { waiting_in self.old.room.now < 32 }
-        ensures lent { self.new.room.ghost_name ≡ self.old.room.ghost_name }
+        ensures only { OnlyTables self.old self.new }
         ensures holds { (s : State) → TablesHold can true self.old.room.now s → (s.clerk who).now' ≡ Quiet → TablesHold can true self.new.room.now (set_clerk who (s.clerk who).deal (Under o 0) s) }
-        ensures rest { rest_of self.new.room.now ≡ rest_of self.old.room.now }
     {
         self.write_op(who, o);
         self.join(who);
@@ -46,9 +47,8 @@ impl<'a> TablesMut<'a> {
     pub fn answer(&mut self, pick: Pick, said: Telling)
         requires picked { pick.place < waiting_in self.old.room.now }
         requires short { count_at self.old.room.now pick.who < 1024 }
-        ensures lent { self.new.room.ghost_name ≡ self.old.room.ghost_name }
+        ensures only { OnlyTables self.old self.new }
         ensures holds { (s : State) → Serves can self.old.room.now self.new.room.now s pick s.book ((s.clerk pick.who).deal ++ record { op = said.op; told = said.answer } ∷ []) said.op said.answer }
-        ensures rest { rest_of self.new.room.now ≡ rest_of self.old.room.now }
     {
         self.tell(pick.who, said);
         self.leave(pick.place);
@@ -57,9 +57,8 @@ impl<'a> TablesMut<'a> {
     // The one picked is turned away: its deal goes on as it was.
     pub fn turn_away(&mut self, pick: Pick)
         requires { pick.place < waiting_in self.old.room.now }
-        ensures lent { self.new.room.ghost_name ≡ self.old.room.ghost_name }
+        ensures only { OnlyTables self.old self.new }
         ensures holds { (s : State) (o : Op) (a : Answer) → Serves can self.old.room.now self.new.room.now s pick s.book (s.clerk pick.who).deal o a }
-        ensures rest { rest_of self.new.room.now ≡ rest_of self.old.room.now }
     {
         self.leave(pick.place);
     }
@@ -67,9 +66,8 @@ impl<'a> TablesMut<'a> {
     // The deal of the one picked is over, whatever the book is then: nothing of it is left.
     fn end(&mut self, pick: Pick)
         requires { pick.place < waiting_in self.old.room.now }
-        ensures lent { self.new.room.ghost_name ≡ self.old.room.ghost_name }
+        ensures only { OnlyTables self.old self.new }
         ensures holds { (s : State) (b : Book) (o : Op) (a : Answer) → Serves can self.old.room.now self.new.room.now s pick b [] o a }
-        ensures rest { rest_of self.new.room.now ≡ rest_of self.old.room.now }
     {
         self.forget(pick.who);
         self.leave(pick.place);
@@ -78,9 +76,8 @@ impl<'a> TablesMut<'a> {
     // The deal of the one picked is taken apart, by an undo or a clash.
     pub fn take_apart(&mut self, pick: Pick)
         requires { pick.place < waiting_in self.old.room.now }
-        ensures lent { self.new.room.ghost_name ≡ self.old.room.ghost_name }
+        ensures only { OnlyTables self.old self.new }
         ensures holds { (s : State) (o : Op) (a : Answer) → Serves can self.old.room.now self.new.room.now s pick s.book [] o a }
-        ensures rest { rest_of self.new.room.now ≡ rest_of self.old.room.now }
     {
         self.end(pick);
     }
@@ -88,9 +85,8 @@ impl<'a> TablesMut<'a> {
     // The deal of the one picked is made: its writes have lasted, and its lines are forgotten. The book may be any then.
     pub fn finish<R: Receipt>(&mut self, pick: Pick, receipt: R)
         requires { pick.place < waiting_in self.old.room.now }
-        ensures lent { self.new.room.ghost_name ≡ self.old.room.ghost_name }
+        ensures only { OnlyTables self.old self.new }
         ensures holds { (s : State) (b : Book) (o : Op) (a : Answer) → Serves can self.old.room.now self.new.room.now s pick b [] o a }
-        ensures rest { rest_of self.new.room.now ≡ rest_of self.old.room.now }
     {
         receipt.spend();
         self.end(pick);

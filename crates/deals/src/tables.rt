@@ -14,7 +14,7 @@ pub struct Tables<'a> {
     ghost sound: { Sound room.now },
 }
 
-// Lent to be changed. It is no `Tables`, which are lent to many at a time.
+// Lent to be changed. It is no `Tables`, which are lent to many at a time. Each change says that the room is still the one that was lent (`SameRoom`), as whoever lends it must know.
 #[derive(Drop)]
 pub struct TablesMut<'a> {
     pub room: &'a mut [u64],
@@ -22,11 +22,17 @@ pub struct TablesMut<'a> {
 }
 
 impl<'a> Tables<'a> {
+    pub fn new(room: &'a [u64]) -> Tables<'a>
+        requires { Sound room.now }
+        ensures { result.room.now ≡ room.now }
+    {
+        Tables { room }
+    }
+
     // How many lines the clerk's deal has.
     pub(crate) fn count(&self, c: Clerk) -> usize
         ensures is { result ≡ count_at self.now.room.now c }
         ensures few { result ≤ 1024 }
-        ensures clerk { c < 32 }
     {
         self.room[COUNTS_AT + c.index()] as usize
     }
@@ -41,6 +47,14 @@ impl<'a> Tables<'a> {
 }
 
 impl<'a> TablesMut<'a> {
+    pub fn new(room: &'a mut [u64]) -> TablesMut<'a>
+        requires { Sound room.old }
+        ensures same { result.room.now ≡ room.old }
+        ensures lent { result.room.ghost_name ≡ room.entry.ghost_name }
+    {
+        TablesMut { room }
+    }
+
     // As they stand, to be read.
     pub fn read(&self) -> Tables<'_>
         ensures { result.room.now ≡ self.now.room.now }

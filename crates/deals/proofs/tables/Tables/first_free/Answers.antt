@@ -16,9 +16,9 @@ returns c s t f =
     let r = c.args.self.now.room.now in
     let who = c.who_at-who.result in
     let some : 0 < waiting_in r = omega (arith, c.waiting.ensures.is, c.if-waiting-eq0.false) in
-    let waits = place_waits can true r s 0 who c.args.found c.waits_for.result t some c.who_at-who.ensures c.waits_for.ensures f in
+    let waits = place_waits can true r s 0 who c.args.found c.waits_for.result t some c.who_at-who.ensures.is c.waits_for.ensures f in
     elim (cases_Bool c.is_empty.result) [
       | inl e ↦ rw (c.then_some.ensures, e)
-          (quick_free can s (order_of r) who c.waits_for.result (omega (arith, order_long r c.args.self.now.sound)) (sym c.who_at-who.ensures) (rw c.who_at-who.ensures (order_few r c.args.self.now.sound 0 (omega (arith, order_long r c.args.self.now.sound)))) waits (sym c.is_empty.ensures ∙ e))
-      | inr e ↦ rw (c.then_some.ensures, e) (quick_held can s (order_of r) who c.waits_for.result (sym c.who_at-who.ensures) waits (sym c.is_empty.ensures ∙ e))
+          (quick_free can s (order_of r) who c.waits_for.result (omega (arith, order_long r c.args.self.now.sound)) (sym c.who_at-who.ensures.is) (rw c.who_at-who.ensures.is (order_few r c.args.self.now.sound 0 (omega (arith, order_long r c.args.self.now.sound)))) waits (sym c.is_empty.ensures ∙ e))
+      | inr e ↦ rw (c.then_some.ensures, e) (quick_held can s (order_of r) who c.waits_for.result (sym c.who_at-who.ensures.is) waits (sym c.is_empty.ensures ∙ e))
     ]

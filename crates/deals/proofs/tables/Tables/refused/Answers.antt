@@ -1,4 +1,4 @@
-use Rattle.std.proofs.Common.{true, false, sym, ap, ◌∙◌, inl, inr}
+use Rattle.std.proofs.Common.{true, false, sym, ap, ◌∙◌, inl, inr, arith}
 use Rattle.std.proofs.lemmas.Bool.{cases_Bool}
 use Rattle.lines.specs.Marks.{marks_in}
 use Rattle.deals.specs.Promise.{can}
@@ -17,13 +17,13 @@ returns-then-not-comes_to c s d =
     let r = c.args.self.now.room.now in
     let who = c.args.c in
     refuses_long can (op_at r who) (s.clerk who).deal (sym (ap can c.read_op-o.ensures) ∙ sym c.if-not-is_built.ensures)
-    (comes_by can r s who c.read_op-o.result c.count.result false (d who c.count.ensures.clerk) c.read_op-o.ensures c.count.ensures.is c.if-not-comes_to.ensures)
+    (comes_by can r s who c.read_op-o.result c.count.result false (d who (omega arith)) c.read_op-o.ensures c.count.ensures.is c.if-not-comes_to.ensures)
 
 pub returns-in-Back : goal.returns-in-Back
 returns-in-Back c s d =
     let r = c.args.self.now.room.now in
     let who = c.args.c in
-    let keeps = d who c.count.ensures.clerk in
+    let keeps = d who (omega arith) in
     let comes = comes_by can r s who c.read_op-o.result c.count.result true keeps c.read_op-o.ensures c.count.ensures.is c.if-not-comes_to.ensures in
     elim (cases_Bool c.has_mark.result) [
       | inl t ↦ rw (c.then_some.ensures, t)
@@ -37,5 +37,5 @@ returns-in_default c s d =
     let r = c.args.self.now.room.now in
     let who = c.args.c in
     refuses_none can (op_at r who) (s.clerk who).deal
-    (comes_by can r s who c.read_op-o.result c.count.result true (d who c.count.ensures.clerk) c.read_op-o.ensures c.count.ensures.is c.if-not-comes_to.ensures)
+    (comes_by can r s who c.read_op-o.result c.count.result true (d who (omega arith)) c.read_op-o.ensures c.count.ensures.is c.if-not-comes_to.ensures)
     (λ j e. c.in_default.not-Back j (c.read_op-o.ensures ∙ e))

@@ -1,4 +1,4 @@
-use Rattle.std.proofs.Common.{sym, ◌∙◌, inl, inr}
+use Rattle.std.proofs.Common.{sym, ◌∙◌, inl, inr, arith}
 use Rattle.std.proofs.lemmas.Bool.{cases_Bool, false≢true}
 use Rattle.deals.specs.Deals.{told}
 use Rattle.deals.specs.Promise.{can}
@@ -12,7 +12,7 @@ returns-in-Next c =
       | inl t ↦ rw (c.then_some.ensures, t) (sym c.in-Next.ensures)
       | inr f ↦
           rw (c.then_some.ensures, f)
-          (λ s g d h. absurd (false≢true (sym (comes_by can c.args.self.now.room.now s c.args.c _ c.count.result _ (d c.args.c c.count.ensures.clerk) c.in-Next.ensures c.count.ensures.is (sym f ∙ c.comes_to.ensures)) ∙ h)))
+          (λ s g d h. absurd (false≢true (sym (comes_by can c.args.self.now.room.now s c.args.c _ c.count.result _ (d c.args.c (omega arith)) c.in-Next.ensures c.count.ensures.is (sym f ∙ c.comes_to.ensures)) ∙ h)))
     ]
 
 pub returns-in_default : goal.returns-in_default

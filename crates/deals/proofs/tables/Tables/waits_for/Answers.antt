@@ -1,4 +1,4 @@
-use Rattle.std.proofs.Common.{true, false, ℕ, not, ◌&&◌, eqb, ltb, sym, ap, ◌∙◌}
+use Rattle.std.proofs.Common.{true, false, ℕ, not, ◌&&◌, eqb, ltb, sym, ap, ◌∙◌, arith}
 use Rattle.locks.specs.declared.way.Want.{Want}
 use Rattle.locks.specs.Bars.{some_bars}
 use Rattle.locks.specs.Sets.{has}
@@ -14,10 +14,10 @@ pub returns-then-comes_to : goal.returns-then-comes_to
 returns-then-comes_to c s d asks u f k =
     let r = c.args.self.now.room.now in
     c.in_ways.ensures k ∙ ap (λ (w : Want). ltb k 32 && (not (eqb c.args.c k) && some_bars w (lines_in r k))) (c.wants.ensures ∙ ap (λ (o : Op). want_of o c.args.found) c.read_op-o.ensures)
-    ∙ waits_some can r s c.args.c d c.count.ensures.clerk asks u c.args.found f (comes_at can r c.args.c c.read_op-o.result c.count.result true c.read_op-o.ensures c.count.ensures.is c.if-comes_to.ensures) k
+    ∙ waits_some can r s c.args.c d (omega arith) asks u c.args.found f (comes_at can r c.args.c c.read_op-o.result c.count.result true c.read_op-o.ensures c.count.ensures.is c.if-comes_to.ensures) k
 
 pub returns-else-comes_to : goal.returns-else-comes_to
 returns-else-comes_to c s d asks u f k =
     let r = c.args.self.now.room.now in
     ap (λ (m : ℕ). has m k) c.none.ensures ∙ has_zero k
-    ∙ sym (waits_none can r s c.args.c d c.count.ensures.clerk asks u (comes_at can r c.args.c c.read_op-o.result c.count.result false c.read_op-o.ensures c.count.ensures.is c.if-comes_to.ensures) k)
+    ∙ sym (waits_none can r s c.args.c d (omega arith) asks u (comes_at can r c.args.c c.read_op-o.result c.count.result false c.read_op-o.ensures c.count.ensures.is c.if-comes_to.ensures) k)
