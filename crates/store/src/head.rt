@@ -107,6 +107,7 @@ fn put_record(page: &mut [u64], j: usize, item: Record)
     ensures { page.new ≡ put_record page.old j item }
 {
     let at = RECORDS + 3 * j;
+    // Word by word, as the specs have it: of a copy of all three it would first have to be shown that it's the same.
     let [tag, key, word] = <[u64; 3]>::from(item);
     page[at] = tag;
     page[at + 1] = key;
