@@ -16,9 +16,11 @@ pub struct FramesMut<'a> {
     ghost sound: { Sound part.now },
 }
 
+// Each method that changes says by `named` that the same words stay lent, or their lender wouldn't know what they end as.
 impl<'a> FramesMut<'a> {
     ghost use Rattle.frames.specs.Changes.{cache_in, SameLoan};
 
+    /// The frames of a part that is in order.
     pub fn new(part: &'a mut [u64]) -> FramesMut<'a>
         requires { Sound part.old }
         ensures same { result.part.now ≡ part.old }

@@ -2,6 +2,9 @@
 //
 // A step writes several of these words, and the table is in order only after the last of them. So the functions that write take the
 // words as they are, and FramesMut, whose table is always in order, calls them.
+//
+// That a page has 512 words is asked in a clause, here and in all of the crate, and isn't in its type: callers pass on the slices that a
+// device and a page store are lent.
 ghost use Rattle.std.specs.Prelude.{◌≡◌, ◌*◌, ◌<◌, length, replicate, slice_index, slice_set};
 ghost use Rattle.frames.specs.Layout.{Sized, cache_of, frame_in, placed, with_frames, with_marks, with_entries, with_count, with_hand, cleared};
 ghost use Rattle.frames.specs.Columns.{start_of, column_in, with_column};
@@ -9,10 +12,13 @@ ghost use Rattle.frames.specs.Columns.{start_of, column_in, with_column};
 use crate::slot::Slot;
 use pages::PAGE_WORDS;
 
+/// How many pages fit in the frames.
 pub const FRAME_COUNT: usize = 120;
 
+/// How many frames can be changed at a time.
 pub const BATCH: usize = 64;
 
+/// How long a part is: the frames, and a page for the table.
 pub const PART_WORDS: usize = TABLE + PAGE_WORDS;
 
 const TABLE: usize = FRAME_COUNT * PAGE_WORDS;
@@ -58,6 +64,8 @@ pub fn word(part: &[u64], column: Column, slot: Slot) -> u64
     part[column.start() + slot.number()]
 }
 
+/// Writes what a column has for a frame. Like `put_frame` below, it says again that the frame is low, for callers that don't look into
+/// a slot.
 pub fn put(part: &mut [u64], column: Column, slot: Slot, word: u64)
     requires { Sized part.old }
     ensures cache { cache_of part.new ≡ with_column column (cache_of part.old) (slice_set (column_in column (cache_of part.old)) slot word) }
@@ -82,6 +90,7 @@ pub fn entry(part: &[u64], place: usize) -> u64
     part[ENTRIES + place]
 }
 
+/// Sets the frame at a place of the batch.
 pub fn put_entry(part: &mut [u64], place: usize, slot: Slot)
     requires { (Sized part.old) × (place < 64) }
     ensures { cache_of part.new ≡ with_entries (cache_of part.old) (slice_set (cache_of part.old).entries place slot) }
@@ -97,6 +106,7 @@ pub fn count(part: &[u64]) -> usize
     part[COUNT] as usize
 }
 
+/// Sets how many frames the batch has.
 pub fn put_count(part: &mut [u64], n: usize)
     requires { Sized part.old }
     ensures { cache_of part.new ≡ with_count (cache_of part.old) n }
@@ -112,6 +122,7 @@ pub fn hand(part: &[u64]) -> usize
     part[HAND] as usize
 }
 
+/// Sets the frame that is next to leave.
 pub fn put_hand(part: &mut [u64], slot: Slot)
     requires { Sized part.old }
     ensures { cache_of part.new ≡ with_hand (cache_of part.old) slot }
@@ -136,6 +147,7 @@ pub fn copy_out(part: &[u64], slot: Slot, into: &mut [u64])
     into.copy_from_slice(frame(part, slot));
 }
 
+/// Writes the words of a frame.
 pub fn put_frame(part: &mut [u64], slot: Slot, words: &[u64])
     requires { (Sized part.old) × (length words.now ≡ 512) }
     ensures cache { cache_of part.new ≡ with_frames (cache_of part.old) (placed (cache_of part.old).frames slot words.now) }

@@ -31,6 +31,7 @@ impl<'a> Model for Frames<'a> {
 }
 
 impl<'a> Frames<'a> {
+    /// The frames of a part that is in order.
     pub fn new(part: &'a [u64]) -> Frames<'a>
         requires { Sound part.now }
         ensures { result ≡ cache_of part.now }
@@ -92,7 +93,7 @@ impl<'a> Frames<'a> {
         layout::word(self.part, Column::Pages, self.batch_slot(place))
     }
 
-    // The place of a frame in the batch, if it is changed.
+    // The place of a frame in the batch, if it is changed. That the frame is low is told again, as in `layout::put`.
     pub(crate) fn place(&self, slot: Slot) -> Option<usize>
         ensures place { result ≡ place_of (mark_in self.now slot) }
         ensures low { slot < 120 }

@@ -4,7 +4,8 @@ ghost use Rattle.std.specs.Prelude.{◌≡◌, ◌+◌, ◌%◌, ◌^◌, ◌<�
 use crate::layout::FRAME_COUNT;
 use std::marker::Model;
 
-/// One of the frames. Clauses see its number.
+/// One of the frames. Clauses see its number. It is built as `Clerk` is, and kept beside it: what is counted differs, and so do the kinds
+/// of number that they are made of.
 #[derive(Clone, Copy, Debug, PartialEq, Eq)]
 pub struct Slot {
     number: usize,
@@ -31,6 +32,7 @@ impl Slot {
         Slot { number }
     }
 
+    /// Its number, to index by.
     pub fn number(self) -> usize
         ensures is { result ≡ self }
         ensures low { result < 120 }

@@ -43,7 +43,7 @@ fn fetch_changed(frames: &mut FramesMut<'_>, p: u64) -> Option<Slot>
     Some(slot)
 }
 
-// Leaves early while a frame is held, or not: the pin is given back, and the cache is what it was.
+// Leaves early while a frame is held, or not: the pin is given back, and the cache is what it was. No test calls it: it's here to be proved.
 fn peek(part: &mut [u64], slot: Slot, wanted: u64) -> Result<u64, Fail>
     requires { (Sound part.old) × (pins_in (cache_of part.old) slot ≡ 0) }
     ensures { cache_of part.new ≡ cache_of part.old }

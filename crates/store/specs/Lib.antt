@@ -3,3 +3,4 @@ pub mod Head
 pub mod State
 pub mod Store
 pub mod HeadPages
+pub mod Lent

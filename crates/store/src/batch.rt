@@ -34,7 +34,7 @@ fn write_batch<D: Device, F: Fn(usize) -> u64>(d: &mut D, part: &Part, to: F) ->
     ensures tied { D.tie d.new ≡ D.tie d.old }
 {
     let frames = look(part);
-    // By place, since the frames and `to` are asked for each.
+    // By place: an iterator over the batch would be a type, its Model and their proofs more, for this loop and the one in `name_batch`.
     for k in 0..frames.batch_len() {
         write_frame(d, to(k), part, frames.batch_slot(k))?;
     }
@@ -73,7 +73,7 @@ fn name_batch(head: &mut HeadPageMut<'_>, frames: &Frames<'_>)
     ensures named { SameHeadLoan head.old head.new }
 {
     head.begin_batch();
-    // By place, since the frames are asked for each.
+    // By place, as in `write_batch`.
     for k in 0..frames.batch_len() {
         head.push_target(frames.batch_page(k));
     }

@@ -1,4 +1,7 @@
 // A device of pages, and what a power cut may leave of them.
+//
+// `tie` names what a device is itself lent. Each function of the store that is lent a device says by `tied` that this stays, or whoever
+// lent it wouldn't know what it ends as. And pages are slices here, so that they have 512 words is asked wherever one is passed on.
 ghost use Rattle.std.specs.Borrow.{GName};
 ghost use Rattle.std.specs.Prelude.{◌≡◌, ◌<◌, List, length, is_ok};
 ghost use Rattle.store.specs.Medium.{Medium, MayAsk, Reads, Wrote, Synced};

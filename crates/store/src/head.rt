@@ -15,6 +15,7 @@ pub struct Root {
     pub used: u64,
 }
 
+/// What a queue has to be done: a word put under a key, or a key dropped.
 #[derive(Clone, Copy, Debug, PartialEq, Eq)]
 pub enum Record {
     Put { key: u64, word: u64 },
@@ -47,7 +48,7 @@ const DONE: usize = 74;
 
 const OWN: usize = 75;
 
-// Where a page's records begin. That there are as many of them is chance.
+// Where a page's records begin. That this is as many as `PER_PAGE` is chance.
 const RECORDS: usize = 128;
 
 // The tags of records, which a page's words have in place of a type. Only the two conversions below know them.
@@ -106,6 +107,7 @@ fn put_record(page: &mut [u64], j: usize, item: Record)
     ensures { page.new ≡ put_record page.old j item }
 {
     let at = RECORDS + 3 * j;
+    // Word by word, as the specs have it: of a copy of all three it would first have to be shown that it's the same.
     let [tag, key, word] = <[u64; 3]>::from(item);
     page[at] = tag;
     page[at + 1] = key;
@@ -138,6 +140,7 @@ impl<'a> Model for HeadPage<'a> {
 }
 
 impl<'a> HeadPage<'a> {
+    /// Any page can be read as a head.
     pub fn new(words: &'a [u64]) -> HeadPage<'a>
         requires { length words.now ≡ 512 }
         ensures { result ≡ head_of words.now }
@@ -151,6 +154,8 @@ impl<'a> HeadPage<'a> {
     {
         self.words[REGION]
     }
+
+    // Words that were never a head may name more targets than there is room for, so these two ask that they don't, and `new` doesn't.
 
     /// How many pages the last batch has.
     pub fn batch_len(&self) -> u64
@@ -169,6 +174,7 @@ impl<'a> HeadPage<'a> {
         self.words[TARGETS + k as usize]
     }
 
+    /// The root that goes with the last batch.
     pub fn root(&self) -> Root
         ensures { result ≡ self.now.root }
     {
@@ -212,9 +218,11 @@ pub struct HeadPageMut<'a> {
     ghost few: { length (head_of words.now).targets ≤ 64 },
 }
 
+// Each method that changes says by `named` that the same words stay lent, or their lender wouldn't know what they end as.
 impl<'a> HeadPageMut<'a> {
     ghost use Rattle.store.specs.HeadPages.{head_in, SameHeadLoan};
 
+    /// A page that is changed as a head.
     pub fn new(words: &'a mut [u64]) -> HeadPageMut<'a>
         requires long { length words.old ≡ 512 }
         requires few { length (head_of words.old).targets ≤ 64 }

@@ -13,6 +13,7 @@ pub struct Lasted {
 }
 
 impl Lasted {
+    /// The one way to let go of it.
     pub fn spend(self) {
         let Lasted { sealed: () } = self;
     }

@@ -1,6 +1,7 @@
 // The store: the one layer that knows of power cuts, over page frames in memory and over a device.
 //
-// Whoever calls is lent the device and the part anew each time, so a Store can't hold them: it's what is noted between two calls.
+// Whoever calls is lent the device and the part anew each time, so a Store can't hold them: it's what is noted between two calls. A struct
+// that is lent all three for one call would be no plainer: each of its methods would have to say of each of the three that it stays lent.
 #![tactic(auto)]
 
 mod batch;
@@ -16,7 +17,7 @@ pub use device::Device;
 use head::Root;
 pub use lasting::Lasted;
 pub use pages::Gone;
-pub use part::{PART_WORDS, Part, next_page, scratch};
+pub use part::{PART_WORDS, Part, next_page, part_of, scratch};
 pub use shown::write_page;
 
 /// fresh: pages of the ring were written since the last sync. imaged: the changed frames stand in the other region,

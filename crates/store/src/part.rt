@@ -1,9 +1,12 @@
 // What the lent part is made of: the frames, the next head, a page to read into.
 //
 // Until it's opened a part is any words. So that its frames are in order is asked for where it's needed, and isn't a part of its type.
+// Afterwards `Intact` says it, with what holds between the part, the device and the Store; a type for the part alone would say less.
 ghost use Rattle.std.specs.Prelude.{◌≡◌, ◌<◌, ◌≤◌, length};
 ghost use Rattle.frames.specs.Frames.{Sound as Framed};
+ghost use Rattle.std.specs.Borrow.{sem};
 ghost use Rattle.store.specs.Head.{joined, turned, stamped};
+ghost use Rattle.store.specs.Lent.{LendsPart};
 ghost use Rattle.store.specs.Store.{frames_of, next_of, scratch_of, next, cache};
 
 use crate::head::{HeadPage, HeadPageMut, Record};
@@ -13,6 +16,7 @@ use pages::PAGE_WORDS;
 /// The words that the store works on.
 pub type Part = [u64; PART_WORDS];
 
+/// How many words the store works on.
 pub const PART_WORDS: usize = SCRATCH + PAGE_WORDS;
 
 // Where the next head stands: behind the frames.
@@ -20,6 +24,15 @@ pub(crate) const NEXT: usize = frames::PART_WORDS;
 
 // And behind that a page to read into.
 pub(crate) const SCRATCH: usize = NEXT + PAGE_WORDS;
+
+/// The part that stands in a lent slice of that length.
+pub fn part_of(words: &mut [u64]) -> &mut Part
+    requires { length words.old ≡ 62976 }
+    ensures* lends { sem 𝓛 (LendsPart words.entry result) }
+    ensures same { result.now ≡ words.old }
+{
+    words.as_mut_array().unwrap()
+}
 
 /// The frames, to be read.
 pub fn look(part: &Part) -> Frames<'_>
@@ -52,7 +65,8 @@ pub fn scratch(part: &Part) -> &[u64]
     &part[SCRATCH..]
 }
 
-// Each of the next three says what one step makes of the next head; a closure for the step would hide just that.
+// Each of the next three says what one step makes of the next head; a closure for the step would hide just that. And each asks that the
+// head's targets are few, since the words of a part that was never opened may name too many.
 
 // A record joins the next head.
 pub(crate) fn join_next(part: &mut Part, item: Record)

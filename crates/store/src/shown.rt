@@ -9,6 +9,9 @@ use crate::{Device, Gone, Store};
 use frames::{FramesMut, Slot};
 use pages::PAGE_WORDS;
 
+// That a page can be changed, nothing is pinned and the batch isn't full, is asked of whoever changes one: when the batch is taken is
+// the caller's to choose, so neither can stand in a type.
+
 // The first data page of the disk.
 const DATA: u64 = 393;
 
@@ -74,12 +77,11 @@ pub fn write_page(part: &mut Part, p: u64, words: &[u64])
     ensures staged { (m : Medium) (s : Store) → Intact m part.old s → T (not s.imaged) → 393 ≤ p → p < m.pages → Staged m part.old s p words.now part.new }
 {
     let frames = look(part);
-    match frames.find(p) {
-        Some(slot) => change_in(part, slot, p, words),
-        None => match frames.victim() {
-            Some(slot) => stage_in(part, slot, p, words),
-            None => unreachable!(),
-        },
+    if let Some(slot) = frames.find(p) {
+        change_in(part, slot, p, words);
+    } else {
+        let slot = frames.victim().unwrap();
+        stage_in(part, slot, p, words);
     }
 }
 

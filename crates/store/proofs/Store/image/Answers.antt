@@ -7,11 +7,10 @@ pub write_images-requires : goal.write_images-requires
 write_images-requires g c = let i = c.requires.intact in
     record { table = i.table; side = i.ready.follows.ok.side; big = i.ready.kept.safe.big; asks = c.requires.asks }
 
-pub returns-in_err-write_images : goal.returns-in_err-write_images
-returns-in_err-write_images g c =
+pub returns-in_err-write_images-clause-shoots : goal.returns-in_err-write_images-clause-shoots
+returns-in_err-write_images-clause-shoots g c =
     let p = err_from_is_err_and c.from_residual.result c.from_residual.ensures.1 in
-    record { shoots = rw p.1 (shot_lost _ _ c.args.part.now c.args.self.now false c.requires.intact c.in_err-write_images.ensures.row tt); tied = c.write_images.ensures.tied }
+    rw p.1 (shot_lost _ _ c.args.part.now c.args.self.now false c.requires.intact c.in_err-write_images.ensures.row tt)
 
-pub returns : goal.returns
-returns g c = record
-    { shoots = shot _ _ c.args.part.now c.args.self.now true c.requires.intact c.in_ok-write_images.ensures.row tt; tied = c.write_images.ensures.tied }
+pub returns-clause-shoots : goal.returns-clause-shoots
+returns-clause-shoots g c = shot _ _ c.args.part.now c.args.self.now true c.requires.intact c.in_ok-write_images.ensures.row tt

@@ -7,11 +7,8 @@ use Rattle.store.proofs.Media.{rested_safe}
 use Rattle.store.proofs.Comes.{rested_read, read_lost, redo_lost, opened}
 use Rattle.store.proofs.Store.open.Goals as goal
 
-pub returns-in_err-load_head : goal.returns-in_err-load_head
-returns-in_err-load_head g c = record {
-  opens = MatchResult-from_err c.from_residual.result _ _ c.from_residual.ensures.0 (λ _. read_lost _ _ _ _ (rested_safe c.requires.rested) c.in_err-load_head.ensures.reads);
-  tied = c.load_head.ensures.tied;
-}
+pub returns-in_err-load_head-clause-opens : goal.returns-in_err-load_head-clause-opens
+returns-in_err-load_head-clause-opens g c = MatchResult-from_err c.from_residual.result _ _ c.from_residual.ensures.0 (λ _. read_lost _ _ _ _ (rested_safe c.requires.rested) c.in_err-load_head.ensures.reads)
 
 pub redo-requires : goal.redo-requires
 redo-requires g c = let r = c.in_ok-load_head.ensures.reads in record {
@@ -20,29 +17,23 @@ redo-requires g c = let r = c.in_ok-load_head.ensures.reads in record {
   head = r.got tt ∙ sym (ap (λ s. s 0) r.shown);
 }
 
-pub returns-in_err-redo : goal.returns-in_err-redo
-returns-in_err-redo g c = record {
-  opens = MatchResult-from_err c.from_residual-in_err-redo.result _ _ c.from_residual-in_err-redo.ensures.0
-      (λ _. redo_lost (g.D.Device.medium c.args.d.now) _ _ c.load_head.new.part false c.requires.rested c.in_ok-load_head.ensures.reads c.in_err-redo.ensures.row tt);
-  tied = c.redo.ensures.tied ∙ c.load_head.ensures.tied;
-}
+pub returns-in_err-redo-clause-opens : goal.returns-in_err-redo-clause-opens
+returns-in_err-redo-clause-opens g c = MatchResult-from_err c.from_residual-in_err-redo.result _ _ c.from_residual-in_err-redo.ensures.0
+    (λ _. redo_lost (g.D.Device.medium c.args.d.now) _ _ c.load_head.new.part false c.requires.rested c.in_ok-load_head.ensures.reads c.in_err-redo.ensures.row tt)
 
 pub stamp_next-requires : goal.stamp_next-requires
 stamp_next-requires g c = let r = c.in_ok-load_head.ensures.reads in record {
   few = subst (λ (w : List ℕ). length (head_of w).targets ≤ 64) (sym (c.clear_frames.ensures.head ∙ c.redo.ensures.head ∙ r.got tt)) c.requires.rested.head.few;
 }
 
-pub returns : goal.returns
-returns g c =
+pub returns-clause-opens : goal.returns-clause-opens
+returns-clause-opens g c =
     let f = c.stamp_next.ensures.frames in
-    record {
-      opens = opened (g.D.Device.medium c.args.d.now) (g.D.Device.medium c.load_head.new.d) (g.D.Device.medium c.redo.new.d) c.load_head.new.part true c.requires.rested
-          c.in_ok-load_head.ensures.reads c.in_ok-redo.ensures.row tt c.stamp_next.new.part _
-          c.stamp_next.array_long
-          (c.stamp_next.ensures.head ∙ ap (λ w. stamped (head_of w)) (c.clear_frames.ensures.head ∙ c.redo.ensures.head))
-          (subst Framed (sym f) c.clear_frames.ensures.table) (ap cache_of f ∙ c.clear_frames.ensures.cache)
-          (λ s. ap (λ (z : List ℕ). shown_by (cache_of z) s) f ∙ c.clear_frames.ensures.shown s) (λ s. subst (λ (z : List ℕ). Clean (cache_of z) s) (sym f) (c.clear_frames.ensures.clean s))
-          (ap (λ (z : List ℕ). pinned (cache_of z)) f ∙ c.clear_frames.ensures.pins)
-          _ (ap (λ o. record { fresh = false; imaged = false; lasted = false; root = o; worked = 0 }) (c.root-root.ensures ∙ ap (λ (h : Head). h.root) c.next_head.ensures));
-      tied = c.redo.ensures.tied ∙ c.load_head.ensures.tied;
-    }
+    opened (g.D.Device.medium c.args.d.now) (g.D.Device.medium c.load_head.new.d) (g.D.Device.medium c.redo.new.d) c.load_head.new.part true c.requires.rested
+    c.in_ok-load_head.ensures.reads c.in_ok-redo.ensures.row tt c.stamp_next.new.part _
+    c.stamp_next.array_long
+    (c.stamp_next.ensures.head ∙ ap (λ w. stamped (head_of w)) (c.clear_frames.ensures.head ∙ c.redo.ensures.head))
+    (subst Framed (sym f) c.clear_frames.ensures.table) (ap cache_of f ∙ c.clear_frames.ensures.cache)
+    (λ s. ap (λ (z : List ℕ). shown_by (cache_of z) s) f ∙ c.clear_frames.ensures.shown s) (λ s. subst (λ (z : List ℕ). Clean (cache_of z) s) (sym f) (c.clear_frames.ensures.clean s))
+    (ap (λ (z : List ℕ). pinned (cache_of z)) f ∙ c.clear_frames.ensures.pins)
+    _ (ap (λ o. record { fresh = false; imaged = false; lasted = false; root = o; worked = 0 }) (c.root-root.ensures ∙ ap (λ (h : Head). h.root) c.next_head.ensures))

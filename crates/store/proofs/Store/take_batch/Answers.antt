@@ -1,4 +1,4 @@
-use Rattle.std.proofs.Common.{ℕ, ◌<◌, true, false, List, sym, ap, ◌∙◌, subst, inl, arith}
+use Rattle.std.proofs.Common.{ℕ, ◌<◌, true, false, List, sym, ap, subst, inl, arith}
 use Rattle.std.proofs.lemmas.Result.{err_from_is_err_and}
 use Rattle.frames.specs.Layout.{cache_of}
 use Rattle.frames.specs.Frames.{Sound as Framed, batch_page, batch_words, entry_in}
@@ -11,11 +11,11 @@ use Rattle.store.proofs.Cached.{batch_used}
 use Rattle.store.proofs.Batches.{over_sound, over_firm, over_cut, put_cut, put_done}
 use Rattle.store.proofs.Store.take_batch.Goals as goal
 
-pub returns-in_err-make_last : goal.returns-in_err-make_last
-returns-in_err-make_last g c =
+pub returns-in_err-make_last-clause-takes : goal.returns-in_err-make_last-clause-takes
+returns-in_err-make_last-clause-takes g c =
     let p = err_from_is_err_and c.from_residual.result c.from_residual.ensures.1 in
     let l = c.in_err-make_last.ensures.settles (next c.args.part.now) c.requires.intact.ready in
-    record { takes = rw p.1 (record { off = l.off; pages = l.pages; back = λ f b. let r = l.back f b in (r.0, inl r.1) }); tied = c.make_last.ensures.tied }
+    rw p.1 (record { off = l.off; pages = l.pages; back = λ f b. let r = l.back f b in (r.0, inl r.1) })
 
 pub take_over-requires : goal.take_over-requires
 take_over-requires g c =
@@ -39,16 +39,13 @@ write_head-requires g c =
       asks = omega (arith, c.requires.asks, x.left);
     }
 
-pub returns-in_err-write_head : goal.returns-in_err-write_head
-returns-in_err-write_head g c =
+pub returns-in_err-write_head-clause-takes : goal.returns-in_err-write_head-clause-takes
+returns-in_err-write_head-clause-takes g c =
     let p = err_from_is_err_and c.from_residual-in_err-write_head.result c.from_residual-in_err-write_head.ensures.1 in
     let part = c.args.part.now in let i = c.requires.intact in
     let m = g.D.Device.medium c.args.d.now in let a = g.D.Device.medium c.make_last.new.d in
     let x = c.in_ok-make_last.ensures.settles (next part) i.ready in
-    record {
-      takes = rw p.1 (over_cut m a part c.args.self.now c.make_last.new.self i c.requires.imaged c.requires.worked x _ (next c.take_over.new.part) c.take_over.ensures.taken c.in_err-write_head.ensures.moves);
-      tied = c.write_head.ensures.tied ∙ c.make_last.ensures.tied;
-    }
+    rw p.1 (over_cut m a part c.args.self.now c.make_last.new.self i c.requires.imaged c.requires.worked x _ (next c.take_over.new.part) c.take_over.ensures.taken c.in_err-write_head.ensures.moves)
 
 pub install-requires : goal.install-requires
 install-requires g c =
@@ -63,32 +60,26 @@ install-requires g c =
       asks = omega (arith, c.requires.asks, x.left, v.left, ap (λ (f : List ℕ). (cache_of f).count) e);
     }
 
-pub returns-in_err-install : goal.returns-in_err-install
-returns-in_err-install g c =
+pub returns-in_err-install-clause-takes : goal.returns-in_err-install-clause-takes
+returns-in_err-install-clause-takes g c =
     let p = err_from_is_err_and c.from_residual-in_err-install.result c.from_residual-in_err-install.ensures.1 in
     let part = c.args.part.now in let i = c.requires.intact in
     let m = g.D.Device.medium c.args.d.now in let a = g.D.Device.medium c.make_last.new.d in
     let b = g.D.Device.medium c.write_head.new.d in let e = g.D.Device.medium c.install.new.d in
     let x = c.in_ok-make_last.ensures.settles (next part) i.ready in
-    record {
-      takes = rw p.1 (put_cut m a part c.args.self.now c.make_last.new.self i c.requires.imaged c.requires.worked x b e c.take_over.new.part false c.take_over.ensures.taken c.in_ok-write_head.ensures.moves
-          (subst (λ (f : List ℕ). WroteAll (cache_of f).count (cache_of f).count (batch_page (cache_of f)) (batch_words (cache_of f)) b false e) c.take_over.ensures.frames c.in_err-install.ensures.row) tt);
-      tied = c.install.ensures.tied ∙ c.write_head.ensures.tied ∙ c.make_last.ensures.tied;
-    }
+    rw p.1 (put_cut m a part c.args.self.now c.make_last.new.self i c.requires.imaged c.requires.worked x b e c.take_over.new.part false c.take_over.ensures.taken c.in_ok-write_head.ensures.moves
+    (subst (λ (f : List ℕ). WroteAll (cache_of f).count (cache_of f).count (batch_page (cache_of f)) (batch_words (cache_of f)) b false e) c.take_over.ensures.frames c.in_err-install.ensures.row) tt)
 
 pub settle-requires : goal.settle-requires
 settle-requires g c = record { table = subst Framed (sym c.take_over.ensures.frames) c.requires.intact.table }
 
-pub returns : goal.returns
-returns g c =
+pub returns-clause-takes : goal.returns-clause-takes
+returns-clause-takes g c =
     let part = c.args.part.now in let i = c.requires.intact in let mid = c.take_over.new.part in
     let m = g.D.Device.medium c.args.d.now in let a = g.D.Device.medium c.make_last.new.d in
     let b = g.D.Device.medium c.write_head.new.d in let e = g.D.Device.medium c.install.new.d in
     let x = c.in_ok-make_last.ensures.settles (next part) i.ready in
     let y = c.settle.ensures in
-    record {
-      takes = put_done m a part c.args.self.now c.make_last.new.self i c.requires.imaged c.requires.worked x b e mid true c.take_over.ensures.taken c.in_ok-write_head.ensures.moves
-          (subst (λ (f : List ℕ). WroteAll (cache_of f).count (cache_of f).count (batch_page (cache_of f)) (batch_words (cache_of f)) b true e) c.take_over.ensures.frames c.in_ok-install.ensures.row) tt
-          c.settle.new.part c.take_over.ensures.frames y.head c.settle.array_long y.table y.cache y.shown y.clean;
-      tied = c.install.ensures.tied ∙ c.write_head.ensures.tied ∙ c.make_last.ensures.tied;
-    }
+    put_done m a part c.args.self.now c.make_last.new.self i c.requires.imaged c.requires.worked x b e mid true c.take_over.ensures.taken c.in_ok-write_head.ensures.moves
+    (subst (λ (f : List ℕ). WroteAll (cache_of f).count (cache_of f).count (batch_page (cache_of f)) (batch_words (cache_of f)) b true e) c.take_over.ensures.frames c.in_ok-install.ensures.row) tt
+    c.settle.new.part c.take_over.ensures.frames y.head c.settle.array_long y.table y.cache y.shown y.clean

@@ -20,17 +20,14 @@ write_frame-requires g c =
       );
     }
 
-pub returns-in_err-write_frame : goal.returns-in_err-write_frame
-returns-in_err-write_frame g c =
+pub returns-in_err-write_frame-clause-row : goal.returns-in_err-write_frame-clause-row
+returns-in_err-write_frame-clause-row g c =
     let p = err_from_is_err_and c.from_residual.result c.from_residual.ensures.1 in
     let v = c.loop-k.invariant in
     let n = c.batch_len-k-end.ensures.count ∙ ap (λ (d : Cache). d.count) c.look-frames.ensures in
     let b = ap (frame_in (cache c.args.part.now).frames) (c.batch_slot.ensures ∙ ap (λ (d : Cache). entry_in d c.loop-k.k) c.look-frames.ensures) in
-    record {
-      row = rw p.1 (λ t f. wrote_part (omega (arith, c.loop-k-test.true, n)) (omega (arith, c.loop-k-test.true, n))
-          (wrote_more (v.row t f) c.in_err-write_frame.ensures.wrote (f c.loop-k.k c.to.result (omega (arith, c.loop-k-test.true, n)) c.to.ensures) b));
-      tied = c.write_frame.ensures.tied ∙ v.tied;
-    }
+    rw p.1 (λ t f. wrote_part (omega (arith, c.loop-k-test.true, n)) (omega (arith, c.loop-k-test.true, n))
+    (wrote_more (v.row t f) c.in_err-write_frame.ensures.wrote (f c.loop-k.k c.to.result (omega (arith, c.loop-k-test.true, n)) c.to.ensures) b))
 
 pub loop-k-preserved : goal.loop-k-preserved
 loop-k-preserved g c =
@@ -45,11 +42,8 @@ loop-k-preserved g c =
       tied = c.write_frame.ensures.tied ∙ v.tied;
     }
 
-pub returns : goal.returns
-returns g c =
+pub returns-clause-row : goal.returns-clause-row
+returns-clause-row g c =
     let v = c.loop-k.invariant in
     let n = c.batch_len-k-end.ensures.count ∙ ap (λ (d : Cache). d.count) c.look-frames.ensures in
-    record {
-      row = λ t f. wrote_all (omega (arith, c.loop-k.auto.k-end, n)) (omega (arith, c.loop-k.auto.k-end, n)) (omega (arith, c.loop-k-test.false, n)) (v.row t f);
-      tied = v.tied;
-    }
+    λ t f. wrote_all (omega (arith, c.loop-k.auto.k-end, n)) (omega (arith, c.loop-k.auto.k-end, n)) (omega (arith, c.loop-k-test.false, n)) (v.row t f)

@@ -6,8 +6,5 @@ use Rattle.store.proofs.batch.write_frame.Goals as goal
 pub frame-requires : goal.frame-requires
 frame-requires g c = length_frames c.args.part.now c.told-part
 
-pub returns : goal.returns
-returns g c = record {
-  wrote = subst (λ (b : List ℕ). Wrote 1 (g.D.Device.medium c.args.d.now) c.args.p b (is_ok c.write.result) (g.D.Device.medium c.write.new.self)) c.frame.ensures.words c.write.ensures.wrote;
-  tied = c.write.ensures.tied;
-}
+pub returns-clause-wrote : goal.returns-clause-wrote
+returns-clause-wrote g c = subst (λ (b : List ℕ). Wrote 1 (g.D.Device.medium c.args.d.now) c.args.p b (is_ok c.write.result) (g.D.Device.medium c.write.new.self)) c.frame.ensures.words c.write.ensures.wrote

@@ -1,7 +1,7 @@
-use Rattle.std.proofs.Common.{sym, ap, ◌∙◌, subst}
+use Rattle.std.proofs.Common.{ap, ◌∙◌}
 use Rattle.frames.specs.Layout.{Cache, cache_of}
-use Rattle.frames.specs.Frames.{Clean, shown_by, pinned}
-use Rattle.frames.proofs.Shown.{cleared_shown, cleared_clean}
+use Rattle.frames.specs.Frames.{shown_by}
+use Rattle.frames.proofs.Shown.{cleared_shown}
 use Rattle.frames.proofs.Tables.{sound_as, cleared_table}
 use Rattle.frames.proofs.change.FramesMut.reset.Goals as goal
 
@@ -10,9 +10,3 @@ invariant_of-result c = record { sound = sound_as _ _ (c.clear.auto.part ∙ c.r
 
 pub returns-clause-shown : goal.returns-clause-shown
 returns-clause-shown c = λ s. ap (λ (d : Cache). shown_by d s) c.clear.ensures ∙ cleared_shown (cache_of c.args.part.now).frames s
-
-pub returns-clause-clean : goal.returns-clause-clean
-returns-clause-clean c = λ s. subst (λ (d : Cache). Clean d s) (sym c.clear.ensures) (cleared_clean (cache_of c.args.part.now).frames s)
-
-pub returns-clause-pins : goal.returns-clause-pins
-returns-clause-pins c = ap pinned c.clear.ensures
