@@ -1,11 +1,6 @@
-use Rattle.std.proofs.Common.{◌≡◌, List, [], ◌∷◌, Some, None, Option, IfOk, sym, ap, ◌∙◌, subst, rules}
-use Rattle.std.specs.Fn.{Called}
-use Rattle.std.specs.Iterator.{TryFoldTurn, TryFoldsItems}
+use Rattle.std.proofs.Common.{◌≡◌, List, [], ◌∷◌, Some, None, Option, sym, ap, ◌∙◌, rules}
 use Rattle.std.specs.List.{FoldsTo}
-use Rattle.std.specs.declared.ops.ControlFlow.{ControlFlow}
-use Rattle.std.specs.declared.ops.ControlFlow.TheVariants.{Continue, Break}
 use Rattle.std.specs.Option.{MatchOption}
-use denote.Param.Members.{Mut}
 use Rattle.view_tests.proofs.play.Play.work_all.Goals as goal
 
 -- where each turn that goes on leaves the total, it stays
