@@ -43,12 +43,16 @@ pub says_over : (q o : List Line) (j : ℕ) → says q o j ≡ over (seen_in j o
 unfolding says
 says_over q o j = seen_over j o None (seen_in j q None)
 
-pub says_queue : (q o : List Line) (j : ℕ) (r : Option Seen) → None ≡ seen_in j o None → r ≡ seen_in j q None → r ≡ says q o j
-says_queue q o j r e h = h ∙ (ap (λ x. over x (seen_in j q None)) e ∙ sym (says_over q o j))
+-- where the deal's own lines are silent, and where they are not
+pub says_silent : (q o : List Line) (j : ℕ) → seen_in j o None ≡ None → says q o j ≡ seen_in j q None
+says_silent q o j e = says_over q o j ∙ ap (λ x. over x (seen_in j q None)) e
 
-pub says_own : (q o : List Line) (j : ℕ) (r : Option Seen) → r ≡ seen_in j o None → (r ≡ None → ⊥) → r ≡ says q o j
-says_own q o j None h n = absurd (n refl)
-says_own q o j (Some x) h n = ap (λ x. over x (seen_in j q None)) h ∙ sym (says_over q o j)
+pub says_spoken : (q o : List Line) (j : ℕ) → (seen_in j o None ≡ None → ⊥) → says q o j ≡ seen_in j o None
+says_spoken q o j n = says_over q o j ∙ spoken (seen_in j o None) n
+  where
+    spoken : (s : Option Seen) → (s ≡ None → ⊥) → over s (seen_in j q None) ≡ s
+    spoken None h = absurd (h refl)
+    spoken (Some x) h = refl
 
 -- what is found by the writes
 put_found : (j k x : ℕ) (s : Option Seen) (d : Option ℕ) → written j (Puts k x) (as_found s d) ≡ as_found (seen_line j (Wrote k x) s) d

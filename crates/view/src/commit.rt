@@ -29,7 +29,8 @@ pub fn take_in(room: &mut [u64], view: View) -> Ring
     ensures succs { (t : List (ℕ × ℕ)) → SuccOk t (queue_of room.old view) → SuccOk t (own_of room.old view) → SuccOk t (queue_lines room.new result) }
 {
     let mut queue = view.queue;
-    // The records go into the room that the lines are read from, so no iterator can hold it meanwhile.
+    // The records go into the room that the lines are read from, so no iterator can hold it meanwhile, and there is no
+    // other memory to read them into.
     for i in 0..view.count {
         let line = lines_of(room, view.deal, view.count).at(i);
         if is_write(line) {

@@ -47,7 +47,7 @@ fn kept_line(change: Option<Change>, line: Line) -> Line
     }
 }
 
-// The queue's records. As for a deal, but for what else of the room stays.
+// The queue's records. As for a deal, but for what else of the room stays, so one function would have to say both.
 pub fn keep_queue(room: &mut [u64], queue: Ring, change: Option<Change>)
     requires { QueueIn room.old queue }
     ensures lines { queue_lines room.new queue ≡ map (kept_by change) (queue_lines room.old queue) }

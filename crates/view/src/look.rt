@@ -1,4 +1,6 @@
 // What a deal finds: in its own lines, in the queue, in the tree.
+// `stands`, `up` and `succs` are clauses of their own and no one word: `look` asks for the first two alone, and where a
+// caller lacks one, the open goal names it.
 ghost use Rattle.std.specs.Prelude.{◌≡◌, ◌+◌, ◌≤◌, length, is_ok, IfOk, OnOk};
 ghost use Rattle.lines.specs.declared.line.Line.TheVariants.{Cleared};
 ghost use Rattle.lines.specs.Tables.{tables, behind};

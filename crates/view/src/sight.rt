@@ -35,6 +35,7 @@ fn is_under(key: u64, best: Option<u64>) -> bool
 }
 
 impl<'a> Sight<'a> {
+    // Copies nothing: each question reads the lines in the room.
     pub fn new(room: &'a [u64], view: View) -> Sight<'a>
         requires { Stands room.now view }
         ensures { result ≡ said_in room.now view }
@@ -55,6 +56,7 @@ impl<'a> Sight<'a> {
     }
 
     // The deal's own lines have the say; where they are silent, the queue.
+    #[tactic(auto, using(crate::proofs::Looks::says_silent, crate::proofs::Looks::says_spoken))]
     pub fn says(&self, key: u64) -> Option<Seen>
         ensures { result ≡ says_of self.now key }
     {
@@ -78,13 +80,10 @@ impl<'a> Sight<'a> {
     {
         let mut t = first;
         while let Some(p) = t {
-            let Some(seen) = self.says(p) else {
-                return Some(p);
-            };
-            let Seen::Away(above) = seen else {
-                return Some(p);
-            };
-            t = above;
+            match self.says(p) {
+                Some(Seen::Away(above)) => t = above,
+                _ => return Some(p),
+            }
         }
         None
     }

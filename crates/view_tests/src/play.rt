@@ -108,6 +108,7 @@ impl Play {
         let deal = clerk.index();
         let count = self.counts[deal];
         if self.queue.count + count <= QUEUE_LINES {
+            // Clauses see a play as its pairs, so no method could say which view it gives: each that needs one makes it.
             let view = View {
                 deal,
                 count,
@@ -139,11 +140,7 @@ impl Play {
         ensures { IfOk result (λ p. p ≡ self) }
     {
         let records = self.queue.count;
-        let mut play = self;
-        for _ in 0..records {
-            play = play.work()?;
-        }
-        Ok(play)
+        (0..records).try_fold(self, |play, _| play.work())
     }
 
     // Shows what the deal sees at k.

@@ -29,7 +29,7 @@ impl From<io::Error> for Stop {
 }
 
 // A key and the word at it, as they are shown.
-#[derive(Clone, Copy)]
+#[derive(Clone, Copy, PartialEq, Eq, Debug)]
 pub struct Entry {
     pub key: u64,
     pub word: u64,
