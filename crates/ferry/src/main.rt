@@ -82,7 +82,6 @@ impl<D: Power + Cuts, S: Sink> Write for Script<'_, D, S> {
     }
 }
 
-// Nothing is played where the power went in each opening.
 fn main(rt: HostRuntime) -> io::Result<()> {
     let mut shown = [0u64; DISK];
     let mut saved = [Entry::BLANK; SAVED];
@@ -99,6 +98,7 @@ fn main(rt: HostRuntime) -> io::Result<()> {
     };
     let mut stage = Stage::new(&mut disk, room.as_mut_slice(), &mut printer);
     let Some(player) = Player::begin(&mut stage) else {
+        // Nothing is played where the power went in each opening.
         return printer.result;
     };
     let mut script = Script {

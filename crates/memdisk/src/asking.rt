@@ -29,6 +29,7 @@ impl<'a> MemDisk<'a> {
     }
 
     // The power goes at the n-th asking from here on, and at 0 at once. Where no more cuts can be set nothing changes.
+    // Two numbers and no `Due`, which is a cut that is still to come: at 0 there is none.
     pub fn set_cut(&mut self, n: u64, choice: u64) -> Result<(), NoRoom>
         ensures told { is_ok result ≡ (n == 0 || nat_lt (length (dues_in self.old)) (cut_room self.old)) }
         ensures dues { dues_in self.new ≡ with_cut (cut_room self.old) (record { asks = n; choice = choice }) (dues_in self.old) }

@@ -36,18 +36,21 @@ impl<'a, T: Copy> Lent<'a, T> {
         Lent { slots, len: 0 }
     }
 
+    // In the order in which they came.
     pub fn items(&self) -> &[T]
         ensures { result.now ≡ self.now.items }
     {
         &self.slots[..self.len]
     }
 
+    // How many items there are, not how many slots.
     pub fn len(&self) -> usize
         ensures { result ≡ length self.now.items }
     {
         self.len
     }
 
+    // Whether there is no room for one more. With no slots it is always so.
     pub fn is_full(&self) -> bool
         ensures full { IsTrue result ↔ (length self.now.items ≡ self.now.room) }
         ensures within { length self.now.items ≤ self.now.room }
@@ -55,12 +58,14 @@ impl<'a, T: Copy> Lent<'a, T> {
         self.len == self.slots.len()
     }
 
+    // The slots keep what they hold, but none of it is an item.
     pub fn clear(&mut self)
         ensures { self.new ≡ record { items = []; room = self.old.room } }
     {
         self.len = 0;
     }
 
+    // Behind the others. A full list stays as it is.
     pub fn try_push(&mut self, item: T) -> Result<(), NoRoom>
         ensures room { IsOk result ↔ (length self.old.items < self.old.room) }
         ensures pushed { OnOk result (self.new ≡ record { items = self.old.items ++ item ∷ []; room = self.old.room }) }

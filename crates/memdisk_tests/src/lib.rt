@@ -53,6 +53,7 @@ pub fn get<D: Power>(d: &mut D, p: u64) -> Result<u64, Unserved>
     Ok(page[0])
 }
 
+// What is shown now lasts: a cut leaves of each page just that.
 pub fn flush<D: Power>(d: &mut D) -> Result<(), Unserved>
     ensures same { (D.disk d.new).shown ≡ (D.disk d.old).shown }
     ensures lasts { OnOk result (Within (D.disk d.new).may (λ p. (D.disk d.old).shown p ∷ [])) }

@@ -1,4 +1,3 @@
-pub mod Cutting
 pub mod Loans
 pub mod Seating
 pub mod Turning

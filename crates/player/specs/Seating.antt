@@ -2,16 +2,11 @@
 -- Assumes nothing.
 use Rattle.std.specs.Prelude.{ℕ, Bool, true, false, cond, List, replicate, nat_lt, slice_index_or, slice_set}
 use Rattle.deals.specs.declared.Op.{Op}
-use Rattle.deals.specs.declared.Op.TheVariants.{Commit, Undo}
+use Rattle.deals.specs.Deals.{ends}
 use Rattle.deals.specs.declared.Answer.{Answer}
 use Rattle.deals.specs.declared.Answer.TheVariants.{Done, Clash}
 use Rattle.player.specs.declared.seats.Seat.{Seat}
 use Rattle.player.specs.declared.seats.Seat.TheVariants.{Free, Dealing, Asked}
-
-abbrev pub ends_deal : Op → Bool
-ends_deal Commit = true
-ends_deal Undo = true
-ends_deal o = false
 
 abbrev pub is_free : Seat → Bool
 is_free Free = true
@@ -36,7 +31,7 @@ after_answer s Clash = Free
 after_answer s a = Dealing
 
 abbrev pub asked : ℕ → Op → List Seat → List Seat
-asked who o seats = slice_set seats who (Asked (ends_deal o))
+asked who o seats = slice_set seats who (Asked (ends o))
 
 abbrev pub told : ℕ → Answer → List Seat → List Seat
 told who a seats = cond (nat_lt who 32) (slice_set seats who (after_answer (slice_index_or seats who Free) a)) seats

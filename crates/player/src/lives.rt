@@ -6,12 +6,13 @@ use crate::sink::Sink;
 use crate::stage::Stage;
 use clerk::Clerk;
 use deals::{Answer, Gone, Office, Op, Power, open};
+use script::line::TURNS;
 
-// There are fewer lives than 2^24.
+// There are fewer lives than 2^24. That turns have the same bound is chance.
 const LAST_LIFE: u64 = 16_777_215;
 
-// A life has fewer turns than 2^24.
-const LAST_TURN: u64 = 16_777_215;
+// The most turns that a life has: a line can ask for so many, and for no more.
+const LAST_TURN: u64 = TURNS - 1;
 
 // How often an opening may ask the disk.
 const ASKS_TO_OPEN: u64 = 4_194_304;
@@ -83,18 +84,19 @@ impl Life {
         self.office.ask(room, who.number(), op);
     }
 
-    pub fn turn<D: Power, S>(
+    // One turn of the office. Gives who is told, and what.
+    pub fn turn<D: Power>(
         &mut self,
-        stage: &mut Stage<'_, D, S>,
+        d: &mut D,
+        room: &mut [u64],
     ) -> Result<Option<(u32, Answer)>, Gone>
         requires { self.old.turns < 16777215 }
         ensures number { self.new.number ≡ self.old.number }
         ensures turns { self.new.turns ≡ self.old.turns + 1 }
-        ensures gone { is_ok result ≡ false → (D.disk stage.new.disk.now).on ≡ false }
-        ensures lent { SameLoans stage.old stage.new }
+        ensures gone { is_ok result ≡ false → (D.disk d.new).on ≡ false }
     {
         self.turns += 1;
-        stage.disk.allow(ASKS_IN_A_TURN);
-        self.office.turn(stage.disk, stage.room)
+        d.allow(ASKS_IN_A_TURN);
+        self.office.turn(d, room)
     }
 }

@@ -90,7 +90,7 @@ impl Player {
         ensures gone { IsErr result → (D.disk stage.new.disk.now).on ≡ false }
         ensures lent { SameLoans stage.old stage.new }
     {
-        let told = self.life.as_mut().unwrap().turn(stage)?;
+        let told = self.life.as_mut().unwrap().turn(stage.disk, stage.room)?;
         if let Some((who, answer)) = told {
             self.seats.tell(who, answer);
         }
@@ -229,7 +229,7 @@ impl Player {
         ensures lent { SameLoans stage.old stage.new }
     {
         let mut key: u64 = 0;
-        // the deal has begun with a look at key 0
+        // A deal reads only so many and is then undone, so this counts what one deal has read: at first its look at key 0.
         let mut readings: u64 = 1;
         while let Some(Answer::Pair(k, word)) = self.look(reader, Op::Next(key), stage) {
             stage.out.put(Output::Entry(k, word));

@@ -1,6 +1,6 @@
 // Who has a deal, and who waits for an answer.
 ghost use Rattle.std.specs.Prelude.{◌≡◌, ℕ, ◌<◌, Bool, true, false, MatchOption, slice_index_or};
-ghost use Rattle.player.specs.Seating.{ends_deal, is_asked, is_free, is_dealing, after_answer, asked, told, nobody};
+ghost use Rattle.player.specs.Seating.{is_asked, is_free, is_dealing, after_answer, asked, told, nobody};
 
 use clerk::{CLERKS, Clerk};
 use deals::{Answer, Op};
@@ -30,12 +30,6 @@ impl Model for Seats {
     ghost Value = { List Seat };
 
     ghost view = { λ s. s.list };
-}
-
-fn ends_deal(op: Op) -> bool
-    ensures { result ≡ ends_deal op }
-{
-    matches!(op, Op::Commit | Op::Undo)
 }
 
 impl Seat {
@@ -74,7 +68,7 @@ impl Seats {
     pub fn ask(&mut self, who: Clerk, op: Op)
         ensures { self.new ≡ asked who op self.old }
     {
-        self.list[who.index()] = Seat::Asked(ends_deal(op));
+        self.list[who.index()] = Seat::Asked(op.is_end());
     }
 
     // Nobody sits past the last clerk.

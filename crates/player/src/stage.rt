@@ -1,5 +1,7 @@
 // What the office plays on.
 ghost use Rattle.std.specs.Prelude.{◌≡◌, false};
+ghost use Rattle.deals.specs.Disk.{Back};
+ghost use Rattle.script.specs.declared.Output.TheVariants.{Cut};
 ghost use Rattle.player.specs.Loans.{SameLoans};
 
 use crate::sink::Sink;
@@ -27,6 +29,8 @@ impl<D: Power, S: Sink> Stage<'_, D, S> {
     // The power has gone: that is told, and it comes back.
     pub fn come_back(&mut self)
         requires { (D.disk self.old.disk.now).on ≡ false }
+        ensures told { S.said self.old.out.now Cut self.new.out.now }
+        ensures back { Back (D.disk self.old.disk.now) (D.disk self.new.disk.now) }
         ensures lent { SameLoans self.old self.new }
     {
         self.out.put(Output::Cut);

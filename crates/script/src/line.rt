@@ -13,7 +13,7 @@ use std::str::Utf8Error;
 use thiserror::Error;
 
 // A life has fewer turns than this.
-const TURNS: u64 = 16_777_216;
+pub const TURNS: u64 = 16_777_216;
 
 // Why a text isn't what it is read as.
 #[derive(Debug, Drop, Error)]
@@ -49,7 +49,8 @@ pub enum Verb {
     Book,
 }
 
-// How many they are belongs to the type and isn't a case of none: each verb takes exactly so many.
+// The numbers after a verb. How many they are belongs to the type and isn't a case of none: each verb takes exactly so
+// many.
 #[derive(Clone, Copy, Debug, PartialEq, Eq)]
 pub enum Numbers {
     Zero,
