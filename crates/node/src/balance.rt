@@ -91,7 +91,7 @@ impl Node {
         requires { j + 1 < length self.old.pairs }
         ensures { self.new ≡ record self.old { pairs = amended self.old.pairs j more } }
     {
-        // A node has few entries: its words say so.
+        // Names the words for the check, which knows by them that a node has few entries.
         let _ = &self.words;
         if let Some(key) = more {
             let (_, child) = self.entry(j + 1);

@@ -35,7 +35,7 @@ const HALF: usize = 128;
 // An entry: a key and its word.
 pub type Entry = (u64, u64);
 
-// A node, in the words of its page. A clause sees its level and its entries.
+// A node, in the words of its page. A clause sees its level and its entries. It owns its words, since a page is copied out of its store in any case, and nothing of a store is lent while a node is changed; whoever has a lent page makes a node of it by a copy.
 #[derive(Drop)]
 pub struct Node {
     words: [u64; PAGE_WORDS],
@@ -89,7 +89,7 @@ impl Node {
         &self.words[KEYS..WORDS][..self.len()]
     }
 
-    // The entry at place i.
+    // The entry at place i. That there is one stands with each function that takes a place, as with the index of a slice.
     pub fn entry(&self, i: usize) -> Entry
         requires { i < length self.now.pairs }
         ensures { result ≡ slice_index_or self.now.pairs i (0, 0) }

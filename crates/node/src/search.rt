@@ -13,6 +13,7 @@ pub struct Way {
     pub right: Option<u64>,
 }
 
+// That the keys rise stands with each question: it is so in a leaf and in an inner node that is whole, and no node that is being changed has to keep it.
 impl Node {
     // Where k is in a leaf, or where it would be.
     pub fn find(&self, k: u64) -> Result<usize, usize>

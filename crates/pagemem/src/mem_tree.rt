@@ -21,7 +21,8 @@ pub fn set_up(marks: &mut [u64], words: &[u64]) -> TreeRoot
     TreeRoot { page: 0, height: 0 }
 }
 
-// A tree with the marks and the words that it stands in. That it is usable stands in the clauses: a struct with lent parts that change has no invariant.
+// A tree with the marks and the words that it stands in. That it is usable stands in the clauses: a ghost field for it owes its proof where the store of pages made of both parts ends,
+// and there the check doesn't know what the parts hold then (the goal that stayed open is `invariant_of-self`, in all four calls).
 #[derive(Drop)]
 pub struct MemTree<'a, 'b> {
     marks: &'a mut [u64],
@@ -55,7 +56,7 @@ impl<'a, 'b> MemTree<'a, 'b> {
         self.marks[FREE]
     }
 
-    // Each call below makes the store of pages anew: one that a function made of both lent parts would not be known to give them back.
+    // Each call below makes the store of pages anew: a function that lent both parts out of `&mut self` would not be known to give them back.
 
     // The word at k.
     pub fn get(&mut self, k: u64) -> Option<u64>

@@ -6,6 +6,7 @@ ghost use Rattle.node.specs.Node.{count_of, level_of, pairs_of, IsNode, Rising, 
 ghost use Rattle.tree.specs.State.{PageState, Still, Whole, Passes};
 ghost use Rattle.tree.specs.Tree.{pairs_at, Mine, Asks, Sound, Once, pairs_of_tree};
 ghost use Rattle.tree.specs.Grow.{Entered, Grew, New, Built, Grown};
+ghost use Rattle.tree.specs.Done.{more_of, is_new};
 
 use crate::TreeRoot;
 use crate::page_store::{PageStore, find_way, look_at, read_node};
@@ -47,11 +48,11 @@ fn change<S: PageStore>(s: &mut S, p: u64, i: usize, entry: Entry) -> Result<(),
     s.write(p, node.words())
 }
 
-// What a put did to a part of the tree: whether the key is new, and the page that it now shares its entries with. Neither tells the other.
+// What a put did to a part of the tree: the key stood there and its word is changed, or the key is new, and then the part may share its entries with a page more.
 #[derive(Clone, Copy, Debug, PartialEq, Eq)]
-struct Stored {
-    new: bool,
-    more: Option<Entry>,
+enum Stored {
+    Changed,
+    Added(Option<Entry>),
 }
 
 // Puts the pair into the leaf p.
@@ -59,21 +60,18 @@ fn leaf_put<S: PageStore>(s: &mut S, p: u64, pair: Entry) -> Result<Stored, Gone
     requires asks { (1 ≤ (S.state s.old).taken p) × ((IsNode ((S.state s.old).page p)) × ((Rising (pairs_of ((S.state s.old).page p))) × ((level_of ((S.state s.old).page p) ≡ 0) × ((3 ≤ (S.state s.old).left) × (1 ≤ (S.state s.old).room))))) }
     requires budget { 2 ≤ (S.state s.old).spare }
     requires whole { Whole S.onto s.old }
-    ensures got { IfOk result (λ t. Entered 3 (S.state s.old) (S.state s.new) 0 p (put_in pair.0 pair.1 (pairs_of ((S.state s.old).page p))) t.more × New pair.0 (pairs_of ((S.state s.old).page p)) t.new) }
+    ensures got { IfOk result (λ t. Entered 3 (S.state s.old) (S.state s.new) 0 p (put_in pair.0 pair.1 (pairs_of ((S.state s.old).page p))) (more_of t) × New pair.0 (pairs_of ((S.state s.old).page p)) (is_new t)) }
     ensures passed { Passes S.onto S.tie (is_ok result) s.old s.new }
 {
     let k = pair.0;
     match look_at(s, p, |leaf| leaf.find(k))? {
         Ok(i) => {
             change(s, p, i, pair)?;
-            Ok(Stored {
-                new: false,
-                more: None,
-            })
+            Ok(Stored::Changed)
         }
         Err(i) => {
             let more = enter(s, p, i, pair)?;
-            Ok(Stored { new: true, more })
+            Ok(Stored::Added(more))
         }
     }
 }
@@ -83,19 +81,22 @@ fn put_at<S: PageStore>(s: &mut S, p: u64, l: u64, pair: Entry) -> Result<Stored
     requires asks { (Asks (S.state s.old) l p pair.0) × ((Mine (S.state s.old) l p) × ((Once (S.state s.old)) × ((3 * l + 3 ≤ (S.state s.old).left) × (l + 1 ≤ (S.state s.old).room)))) }
     requires budget { 2 * l + 2 ≤ (S.state s.old).spare }
     requires whole { Whole S.onto s.old }
-    ensures got { IfOk result (λ t. Grew (3 * l + 3) (S.state s.old) (S.state s.new) l p pair.0 pair.1 t.more × New pair.0 (pairs_at (S.state s.old).page l p) t.new) }
+    ensures got { IfOk result (λ t. Grew (3 * l + 3) (S.state s.old) (S.state s.new) l p pair.0 pair.1 (more_of t) × New pair.0 (pairs_at (S.state s.old).page l p) (is_new t)) }
     ensures passed { Passes S.onto S.tie (is_ok result) s.old s.new }
 {
     if l == 0 {
         return leaf_put(s, p, pair);
     }
     let w = find_way(s, p, pair.0)?;
-    let t = put_at(s, w.down, l - 1, pair)?;
-    if let Some(child) = t.more {
-        let more = enter(s, p, w.at + 1, child)?;
-        return Ok(Stored { new: t.new, more });
+    let stored = put_at(s, w.down, l - 1, pair)?;
+    match stored {
+        Stored::Changed => Ok(Stored::Changed),
+        Stored::Added(None) => Ok(Stored::Added(None)),
+        Stored::Added(Some(child)) => {
+            let more = enter(s, p, w.at + 1, child)?;
+            Ok(Stored::Added(more))
+        }
     }
-    Ok(t)
 }
 
 // A new page with a node of one entry or two, at level l.
@@ -131,14 +132,18 @@ impl TreeRoot {
             *self = TreeRoot { page, height: 1 };
             return Ok(true);
         }
-        let t = put_at(s, self.page, self.height - 1, (k, x))?;
-        if let Some(_) = t.more {
-            let page = build(s, self.height, (0, self.page), t.more)?;
-            *self = TreeRoot {
-                page,
-                height: self.height + 1,
-            };
+        let stored = put_at(s, self.page, self.height - 1, (k, x))?;
+        match stored {
+            Stored::Changed => Ok(false),
+            Stored::Added(None) => Ok(true),
+            Stored::Added(Some(child)) => {
+                let page = build(s, self.height, (0, self.page), Some(child))?;
+                *self = TreeRoot {
+                    page,
+                    height: self.height + 1,
+                };
+                Ok(true)
+            }
         }
-        Ok(t.new)
     }
 }

@@ -47,6 +47,8 @@ pub trait PageStore {
 }
 
 // What a store passes on, Whole and Passes, stands with each function: it speaks of a store before and after a call, which no type of a value can keep.
+// So does what is asked of a page, that it is taken and holds a node: a page here is a number, and says nothing without its store.
+// The bounds on what may still be asked and changed differ from function to function.
 
 // The node of page p.
 pub fn read_node<S: PageStore>(s: &mut S, p: u64) -> Result<Node, Gone>

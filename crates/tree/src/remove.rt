@@ -5,6 +5,7 @@ ghost use Rattle.node.specs.Node.{count_of, level_of, pairs_of, IsNode, Rising};
 ghost use Rattle.tree.specs.State.{PageState, Whole, Passes};
 ghost use Rattle.tree.specs.Tree.{pairs_at, Mine, Asks, Sound, Once, pairs_of_tree};
 ghost use Rattle.tree.specs.Shrink.{Near, Paired, Mends, Mended, Cut, Shrunk, Wide, Was, Worn, Crowned, Dropped};
+ghost use Rattle.tree.specs.Done.{is_thin, was_there};
 
 use crate::TreeRoot;
 use crate::page_store::{PageStore, find_way, read_node};
@@ -48,11 +49,11 @@ fn mend<S: PageStore>(s: &mut S, p: u64, j: usize, l: u64) -> Result<bool, Gone>
     Ok(node.len() < LEAST)
 }
 
-// What a drop did to a part of the tree: whether the key was there, and whether the part's root is thin now. Two flags say it as shortly as an enum, which each reader would take apart again.
+// What a drop did to a part of the tree: the key was absent, or its pair is taken out, and then the part's root may be thin.
 #[derive(Clone, Copy, Debug, PartialEq, Eq)]
-struct Lost {
-    was: bool,
-    thin: bool,
+enum Lost {
+    Absent,
+    Taken { thin: bool },
 }
 
 // Takes the pair at k out of the leaf p.
@@ -60,7 +61,7 @@ fn leaf_drop<S: PageStore>(s: &mut S, p: u64, k: u64) -> Result<Lost, Gone>
     requires asks { (0 < (S.state s.old).left) × ((1 ≤ (S.state s.old).taken p) × ((IsNode ((S.state s.old).page p)) × ((Rising (pairs_of ((S.state s.old).page p))) × (level_of ((S.state s.old).page p) ≡ 0)))) }
     requires budget { 1 ≤ (S.state s.old).spare }
     requires whole { Whole S.onto s.old }
-    ensures got { IfOk result (λ t. Cut 1 (S.state s.old) (S.state s.new) p (pairs_of ((S.state s.old).page p)) (drop_in k (pairs_of ((S.state s.old).page p))) t.thin × Was k (pairs_of ((S.state s.old).page p)) t.was) }
+    ensures got { IfOk result (λ t. Cut 1 (S.state s.old) (S.state s.new) p (pairs_of ((S.state s.old).page p)) (drop_in k (pairs_of ((S.state s.old).page p))) (is_thin t) × Was k (pairs_of ((S.state s.old).page p)) (was_there t)) }
     ensures passed { Passes S.onto S.tie (is_ok result) s.old s.new }
 {
     let mut leaf = read_node(s, p)?;
@@ -68,15 +69,10 @@ fn leaf_drop<S: PageStore>(s: &mut S, p: u64, k: u64) -> Result<Lost, Gone>
         Ok(i) => {
             leaf.remove_at(i);
             s.write(p, leaf.words())?;
-            Ok(Lost {
-                was: true,
-                thin: leaf.len() < LEAST,
-            })
+            let thin = leaf.len() < LEAST;
+            Ok(Lost::Taken { thin })
         }
-        Err(_) => Ok(Lost {
-            was: false,
-            thin: false,
-        }),
+        Err(_) => Ok(Lost::Absent),
     }
 }
 
@@ -85,19 +81,22 @@ fn drop_at<S: PageStore>(s: &mut S, p: u64, l: u64, k: u64) -> Result<Lost, Gone
     requires asks { (Asks (S.state s.old) l p k) × ((Mine (S.state s.old) l p) × ((Once (S.state s.old)) × ((Wide (S.state s.old) l p) × (4 * l + 1 ≤ (S.state s.old).left)))) }
     requires budget { 2 * l + 1 ≤ (S.state s.old).spare }
     requires whole { Whole S.onto s.old }
-    ensures got { IfOk result (λ t. Shrunk (4 * l + 1) (S.state s.old) (S.state s.new) l p k t.thin × Was k (pairs_at (S.state s.old).page l p) t.was) }
+    ensures got { IfOk result (λ t. Shrunk (4 * l + 1) (S.state s.old) (S.state s.new) l p k (is_thin t) × Was k (pairs_at (S.state s.old).page l p) (was_there t)) }
     ensures passed { Passes S.onto S.tie (is_ok result) s.old s.new }
 {
     if l == 0 {
         return leaf_drop(s, p, k);
     }
     let w = find_way(s, p, k)?;
-    let t = drop_at(s, w.down, l - 1, k)?;
-    if t.thin {
-        let thin = mend(s, p, w.at.saturating_sub(1), l - 1)?;
-        return Ok(Lost { was: t.was, thin });
+    let lost = drop_at(s, w.down, l - 1, k)?;
+    match lost {
+        Lost::Absent => Ok(Lost::Absent),
+        Lost::Taken { thin: false } => Ok(Lost::Taken { thin: false }),
+        Lost::Taken { thin: true } => {
+            let thin = mend(s, p, w.at.saturating_sub(1), l - 1)?;
+            Ok(Lost::Taken { thin })
+        }
     }
-    Ok(t)
 }
 
 impl TreeRoot {
@@ -142,10 +141,14 @@ impl TreeRoot {
         if self.height == 0 {
             return Ok(false);
         }
-        let t = drop_at(s, self.page, self.height - 1, k)?;
-        if t.thin {
-            self.crown(s)?;
+        let lost = drop_at(s, self.page, self.height - 1, k)?;
+        match lost {
+            Lost::Absent => Ok(false),
+            Lost::Taken { thin: false } => Ok(true),
+            Lost::Taken { thin: true } => {
+                self.crown(s)?;
+                Ok(true)
+            }
         }
-        Ok(t.was)
     }
 }

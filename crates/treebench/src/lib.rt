@@ -1,5 +1,6 @@
 // The tree in memory for other languages: a slice crosses as a pointer and then its length.
 // The caller asks for nothing before tree_set_up, and leaves what it lends alone between the calls.
+// What travels together, the marks, the words and the root, comes as C lends it, so each function says anew that a tree stands there.
 #![tactic(auto)]
 
 ghost use Rattle.std.specs.Prelude.{◌≡◌, ℕ, ◌-◌, ◌*◌, ◌<◌, ◌≤◌, length};

@@ -78,7 +78,8 @@ fn nodes_at_most(n: usize) -> usize {
     n / 84 + 1
 }
 
-// The tree, the list, and whether all that the tree told so far agrees with the list.
+// The tree, the list, and whether all that the tree told so far agrees with the list. That they are ready stands in the clauses, as it does for the tree that is lent here.
+// So does that k is a key: it is a place in the list.
 #[derive(Drop)]
 struct Game<'a, 'b, 'c> {
     tree: MemTree<'a, 'b>,
