@@ -79,7 +79,7 @@ impl From<Op> for [u64; ASK_WORDS] {
 }
 
 impl<'a> Tables<'a> {
-    // What the clerk asks.
+    /// What the clerk asks.
     #[tactic(auto, unfolding(crate::specs::Tables::op_at))]
     pub fn read_op(&self, c: Clerk) -> Op
         ensures { result ≡ op_at self.now.room.now c }
@@ -90,7 +90,7 @@ impl<'a> Tables<'a> {
 }
 
 impl<'a> TablesMut<'a> {
-    // The clerk asks this from now on.
+    /// The clerk asks this from now on.
     pub fn write_op(&mut self, c: Clerk, o: Op)
         ensures lent { SameRoom self.old self.new }
         ensures written { op_at self.new.room.now c ≡ o }

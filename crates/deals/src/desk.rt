@@ -15,7 +15,7 @@ use lines::line::Line;
 use lines::marks::go_back;
 use lines::tables::{DEAL_WORDS, deal_ring};
 
-// What was asked in a deal, and told. `Op` and `Answer` are the statements' own, which cannot be compared or printed, so neither can this.
+/// What was asked in a deal, and told. `Op` and `Answer` are the statements' own, which cannot be compared or printed, so neither can this.
 #[derive(Clone, Copy)]
 pub struct Telling {
     pub op: Op,
@@ -54,7 +54,7 @@ fn note(words: &mut [u64], n: usize, said: Telling)
 }
 
 impl<'a> TablesMut<'a> {
-    // The clerk, whose deal has fewer than 1,024 lines, is told this.
+    /// The clerk, whose deal has fewer than 1,024 lines, is told this.
     pub fn tell(&mut self, c: Clerk, said: Telling)
         requires { count_at self.old.room.now c < 1024 }
         ensures lent { SameRoom self.old self.new }

@@ -5,7 +5,7 @@ ghost use Rattle.deals.specs.Drives.{medium_of};
 use super::{Gone, Pages};
 use store::Device;
 
-// Lent for as long as the store works on it.
+/// Lent for as long as the store works on it.
 pub struct Drive<'a, D> {
     pub disk: &'a mut D,
 }

@@ -20,7 +20,7 @@ ghost use Rattle.deals.specs.Examples.{ExamplesHold};
 
 pub use office::{Office, open};
 
-// What is asked and told stands as the statements fix it, without further derives.
+/// What is asked and told stands as the statements fix it, without further derives.
 #[derive(Clone, Copy)]
 pub enum Op {
     Get(u64),
@@ -45,7 +45,7 @@ pub enum Answer {
     Clash,
 }
 
-// The power has gone. As the statements fix it; below `deals` it is `pages::Gone`.
+/// The power has gone. As the statements fix it; below `deals` it is `pages::Gone`.
 #[derive(Clone, Copy)]
 pub struct Gone;
 
@@ -68,7 +68,7 @@ pub trait Pages {
         ensures { Syncing (disk self.old) (is_ok result) (disk self.new) };
 }
 
-// What the office doesn't see.
+/// What the office doesn't see.
 pub trait Power: Pages {
     fn allow(&mut self, asks: u64)
         ensures { Self.disk self.new ≡ allowed asks (Self.disk self.old) };
@@ -78,7 +78,7 @@ pub trait Power: Pages {
         ensures { Back (Self.disk self.old) (Self.disk self.new) };
 }
 
-// Clerks, 0 to 31. What they are told they may be told: that is the promise.
+/// Clerks, 0 to 31. What they are told they may be told: that is the promise.
 pub trait Clerks {
     ghost seen: { Self → List Event };
 
@@ -105,14 +105,14 @@ pub trait Clerks {
         ensures { (seen self.new ≡ Cut ∷ seen self.old) × (space self.old ≤ space self.new + 1) };
 }
 
-// What the first landings build is never taken back.
+/// What the first landings build is never taken back.
 pub fn core_built() -> u8
     ensures { CoreBuilt }
 {
     0
 }
 
-// What is promised beside, each a theorem that a contract names.
+/// What is promised beside, each a theorem that a contract names.
 pub fn keys_rise() -> u8
     ensures { KeysRise }
 {
@@ -131,14 +131,14 @@ pub fn keeps_others() -> u8
     0
 }
 
-// What is large is in the room.
+/// What is large is in the room.
 pub fn office_is_small() -> bool
     ensures { T result }
 {
     std::mem::size_of::<Office>() <= 4096
 }
 
-// The worked examples of the rules.
+/// The worked examples of the rules.
 pub fn examples_hold() -> u8
     ensures { ExamplesHold }
 {

@@ -6,13 +6,13 @@ use super::refusals::Refusal;
 use super::{Answer, Gone, Op, Pages};
 use clerk::Clerk;
 
-// Who has asked and hasn't been told, a bit for each clerk. A `ClerkSet` would not do: it has no lowest, and lets nobody out.
+/// Who has asked and hasn't been told, a bit for each clerk. A `ClerkSet` would not do: it has no lowest, and lets nobody out.
 #[derive(Drop)]
 pub struct Office {
     waiting: u32,
 }
 
-// Nobody has asked yet, and the disk isn't needed.
+/// Nobody has asked yet, and the disk isn't needed.
 pub fn open<D: Pages>(d: &mut D, room: &mut [u64]) -> Result<Office, Gone>
     requires soon { 4194304 ≤ (D.disk d.old).left }
     ensures only { is_ok result ≡ false → (D.disk d.new).on ≡ false }
@@ -24,7 +24,7 @@ pub fn open<D: Pages>(d: &mut D, room: &mut [u64]) -> Result<Office, Gone>
 }
 
 impl Office {
-    // It's asked. Nobody but the clerks 0 to 31 can ask.
+    /// It's asked. Nobody but the clerks 0 to 31 can ask.
     pub fn ask(&mut self, room: &mut [u64], who: u32, o: Op)
         ensures waits { self.new.waiting ≡ joined self.old.waiting who }
         ensures room { room.new ≡ room.old }
@@ -35,7 +35,7 @@ impl Office {
         }
     }
 
-    // A turn, in which the lowest clerk who waits is told.
+    /// A turn, in which the lowest clerk who waits is told.
     pub fn turn<D: Pages>(
         &mut self,
         d: &mut D,

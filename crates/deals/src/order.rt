@@ -9,7 +9,7 @@ use super::tables::{Tables, TablesMut};
 use clerk::Clerk;
 
 impl<'a> Tables<'a> {
-    // How many have asked.
+    /// How many have asked.
     #[tactic(auto, using(crate::proofs::Orders::order_long))]
     pub fn waiting(&self) -> usize
         ensures long { result ≡ length (order_of self.now.room.now) }
@@ -29,7 +29,7 @@ impl<'a> Tables<'a> {
         &self.room[ORDER_AT..ORDER_AT + n]
     }
 
-    // Who stands at place i.
+    /// Who stands at place i.
     #[tactic(auto, using(crate::proofs::Orders::order_at))]
     pub fn who_at(&self, i: usize) -> Clerk
         requires { i < waiting_in self.now.room.now }
@@ -49,7 +49,7 @@ fn close_up(order: &mut [u64], place: usize)
 }
 
 impl<'a> TablesMut<'a> {
-    // One has asked, and stands last.
+    /// One has asked, and stands last.
     pub fn join(&mut self, who: Clerk)
         requires { waiting_in self.old.room.now < 32 }
         ensures lent { SameRoom self.old self.new }
@@ -62,7 +62,7 @@ impl<'a> TablesMut<'a> {
         room[WAITING_AT] = n + 1;
     }
 
-    // The one at this place is served, and the others close up.
+    /// The one at this place is served, and the others close up.
     pub fn leave(&mut self, place: usize)
         requires { place < waiting_in self.old.room.now }
         ensures lent { SameRoom self.old self.new }

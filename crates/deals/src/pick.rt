@@ -17,7 +17,7 @@ use locks::set::ClerkSet;
 use locks::way::{Want, in_way};
 
 impl Op {
-    // Is it built. This is the one place that says so.
+    /// Is it built. This is the one place that says so.
     #[tactic(auto, unfolding(crate::specs::Deals::core))]
     pub fn is_built(self) -> bool
         ensures { result ≡ can self }
@@ -25,7 +25,7 @@ impl Op {
         !matches!(self, Op::Next(_) | Op::Mark | Op::Back(_))
     }
 
-    // Does it end the deal.
+    /// Does it end the deal.
     #[tactic(auto, unfolding(crate::specs::Deals::ends))]
     pub fn is_end(self) -> bool
         ensures { result ≡ ends self }
@@ -61,7 +61,7 @@ impl<'a> Tables<'a> {
         ClerkSet::those(|e| e != c && in_way(self.lines(e), want))
     }
 
-    // The key from which the clerk's Next would look, if it asks one that isn't turned away: only then must the key that it would find be known.
+    /// The key from which the clerk's Next would look, if it asks one that isn't turned away: only then must the key that it would find be known.
     pub fn scan_from(&self, c: Clerk) -> Option<u64>
         ensures { MatchOption result ((s : State) (f : Option ℕ) → Desk self.now.room.now s → FindsFor can self.now.room.now s c f) (λ k. op_at self.now.room.now c ≡ Op.Next k) }
     {
@@ -72,7 +72,7 @@ impl<'a> Tables<'a> {
         }
     }
 
-    // For whom the clerk waits.
+    /// For whom the clerk waits.
     pub fn waits_for(&self, c: Clerk, found: Option<u64>) -> ClerkSet
         ensures { (s : State) → Desk self.now.room.now s → Asks self.now.room.now s → is_under (s.clerk c).now' ≡ true → FindsFor can self.now.room.now s c found → (k : ℕ) → is_in result k ≡ (nat_lt k 32 && waits can s c k) }
     {
@@ -84,7 +84,7 @@ impl<'a> Tables<'a> {
         }
     }
 
-    // Into the graph, which has the first i of the order, goes for whom the next of them waits. `found`: the key that it would find, if `scan_from` asks for it.
+    /// Into the graph, which has the first i of the order, goes for whom the next of them waits. `found`: the key that it would find, if `scan_from` asks for it.
     pub fn note_waits(&self, graph: &mut WaitGraph, i: usize, found: Option<u64>)
         requires { i < waiting_in self.now.room.now }
         ensures { (s : State) → TablesHold can true self.now.room.now s → FindsFor can self.now.room.now s (slice_index (order_of self.now.room.now) i) found → GraphTo can graph.old s (order_of self.now.room.now) i → GraphTo can graph.new s (order_of self.now.room.now) (i + 1) }
@@ -93,14 +93,14 @@ impl<'a> Tables<'a> {
         graph.put(who, self.waits_for(who, found));
     }
 
-    // The first who counts, by the graph of all who have asked; by a clash, if it is on a ring.
+    /// The first who counts, by the graph of all who have asked; by a clash, if it is on a ring.
     pub fn choose(&self, graph: &WaitGraph) -> Option<Pick>
         ensures { (s : State) → TablesHold can true self.now.room.now s → GraphTo can graph.now s (order_of self.now.room.now) (length (order_of self.now.room.now)) → Picked can s (order_of self.now.room.now) result }
     {
         graph.choose(self.order())
     }
 
-    // The quick way: the first of all, if it waits for nobody. No other is looked at.
+    /// The quick way: the first of all, if it waits for nobody. No other is looked at.
     pub fn first_free(&self, found: Option<u64>) -> Option<Pick>
         ensures { (s : State) → TablesHold can true self.now.room.now s → FindsFor can self.now.room.now s (slice_index (order_of self.now.room.now) 0) found → Quick can s (order_of self.now.room.now) result }
     {
@@ -116,7 +116,7 @@ impl<'a> Tables<'a> {
         self.waits_for(who, found).is_empty().then_some(pick)
     }
 
-    // Whom to serve, where the keys that would be found are known: `found` has one for each clerk.
+    /// Whom to serve, where the keys that would be found are known: `found` has one for each clerk.
     pub fn decide(&self, found: &[Option<u64>]) -> Option<Pick>
         requires { length found.now ≡ 32 }
         ensures { (s : State) → TablesHold can true self.now.room.now s → ((c : ℕ) → c < 32 → FindsFor can self.now.room.now s c (slice_index_or found.now c None)) → Picked can s (order_of self.now.room.now) result }

@@ -37,7 +37,7 @@ impl<'a> Tables<'a> {
         (j as usize) < marks_in(self.lines(c))
     }
 
-    // Why what the clerk asks is turned away, if it is: it isn't built, the deal is too long, there is no such mark; in this order.
+    /// Why what the clerk asks is turned away, if it is: it isn't built, the deal is too long, there is no such mark; in this order.
     pub fn refused(&self, c: Clerk) -> Option<Refusal>
         ensures { (s : State) → Desk self.now.room.now s → Refuses can (op_at self.now.room.now c) (s.clerk c).deal result }
     {

@@ -14,14 +14,14 @@ use super::{Answer, Op};
 use clerk::Clerk;
 use locks::graph::Pick;
 
-// What shows that a deal's writes have lasted. A deal that is made must spend one.
+/// What shows that a deal's writes have lasted. A deal that is made must spend one.
 pub trait Receipt {
     fn spend(self);
 }
 
 // That the one picked stands in the order is asked by each function that serves it, as the bound of an index is: the order is another after each call.
 impl<'a> TablesMut<'a> {
-    // The tables of a room in which no clerk has a deal, or asks anything.
+    /// The tables of a room in which no clerk has a deal, or asks anything.
     pub fn clear(room: &'a mut [u64]) -> TablesMut<'a>
         requires { length room.old ≡ 262144 }
         ensures lent { result.room.ghost_name ≡ room.entry.ghost_name }
@@ -33,7 +33,7 @@ impl<'a> TablesMut<'a> {
         TablesMut { room }
     }
 
-    // A clerk asks, who has nothing under way.
+    /// A clerk asks, who has nothing under way.
     pub fn take_in(&mut self, who: Clerk, o: Op)
         requires { waiting_in self.old.room.now < 32 }
         ensures only { OnlyTables self.old self.new }
@@ -43,7 +43,7 @@ impl<'a> TablesMut<'a> {
         self.join(who);
     }
 
-    // The one picked is told this, within its deal.
+    /// The one picked is told this, within its deal.
     pub fn answer(&mut self, pick: Pick, said: Telling)
         requires picked { pick.place < waiting_in self.old.room.now }
         requires short { count_at self.old.room.now pick.who < 1024 }
@@ -54,7 +54,7 @@ impl<'a> TablesMut<'a> {
         self.leave(pick.place);
     }
 
-    // The one picked is turned away: its deal goes on as it was.
+    /// The one picked is turned away: its deal goes on as it was.
     pub fn turn_away(&mut self, pick: Pick)
         requires { pick.place < waiting_in self.old.room.now }
         ensures only { OnlyTables self.old self.new }
@@ -73,7 +73,7 @@ impl<'a> TablesMut<'a> {
         self.leave(pick.place);
     }
 
-    // The deal of the one picked is taken apart, by an undo or a clash.
+    /// The deal of the one picked is taken apart, by an undo or a clash.
     pub fn take_apart(&mut self, pick: Pick)
         requires { pick.place < waiting_in self.old.room.now }
         ensures only { OnlyTables self.old self.new }
@@ -82,7 +82,7 @@ impl<'a> TablesMut<'a> {
         self.end(pick);
     }
 
-    // The deal of the one picked is made: its writes have lasted, and its lines are forgotten. The book may be any then.
+    /// The deal of the one picked is made: its writes have lasted, and its lines are forgotten. The book may be any then.
     pub fn finish<R: Receipt>(&mut self, pick: Pick, receipt: R)
         requires { pick.place < waiting_in self.old.room.now }
         ensures only { OnlyTables self.old self.new }
@@ -93,7 +93,7 @@ impl<'a> TablesMut<'a> {
     }
 }
 
-// The tables hold through a turn and a telling, and nobody's asking gets older than 32 turns that count.
+/// The tables hold through a turn and a telling, and nobody's asking gets older than 32 turns that count.
 pub fn ages_stay_low() -> u8
     ensures idle { IdleTurn }
     ensures turn { TurnGoes }

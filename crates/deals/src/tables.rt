@@ -7,14 +7,14 @@ use clerk::Clerk;
 use lines::own::lines_of;
 use lines::ring::Lines;
 
-// Lent to be read.
+/// Lent to be read.
 #[derive(Clone, Copy, Debug, PartialEq, Eq)]
 pub struct Tables<'a> {
     pub room: &'a [u64],
     ghost sound: { Sound room.now },
 }
 
-// Lent to be changed. It is no `Tables`, which are lent to many at a time. Each change says that the room is still the one that was lent (`SameRoom`), as whoever lends it must know.
+/// Lent to be changed. It is no `Tables`, which are lent to many at a time. Each change says that the room is still the one that was lent (`SameRoom`), as whoever lends it must know.
 #[derive(Drop)]
 pub struct TablesMut<'a> {
     pub room: &'a mut [u64],
@@ -55,7 +55,7 @@ impl<'a> TablesMut<'a> {
         TablesMut { room }
     }
 
-    // As they stand, to be read.
+    /// As they stand, to be read.
     pub fn read(&self) -> Tables<'_>
         ensures { result.room.now ≡ self.now.room.now }
     {

@@ -4,7 +4,7 @@
 use lines::ring::Ring;
 use store::Store;
 
-// What is noted beside the room: the store, and the queue's place in the room.
+/// What is noted beside the room: the store, and the queue's place in the room.
 #[derive(Drop)]
 pub struct Ledger {
     pub store: Store,

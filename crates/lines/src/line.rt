@@ -3,8 +3,8 @@ ghost use Rattle.std.specs.Prelude.{◌≡◌, ℕ, ◌+◌, ◌*◌, ◌≤◌,
 ghost use Rattle.lines.specs.Tags.{tag_by};
 ghost use Rattle.lines.specs.Lines.{line_at, line_of, tag_of, first_of, second_of};
 
-// A line of a deal, or a record of the queue (only `Wrote` and `Cleared` are records).
-// The kept key of `Cleared` is an `Option`, told by the tag, so that key 0 is a key as any other.
+/// A line of a deal, or a record of the queue (only `Wrote` and `Cleared` are records).
+/// The kept key of `Cleared` is an `Option`, told by the tag, so that key 0 is a key as any other.
 #[derive(Clone, Copy, PartialEq, Eq, Debug)]
 pub enum Line {
     // Says nothing and locks nothing. Zero words are such a line, so it is a kind of line and not the lack of one.
@@ -95,7 +95,7 @@ impl From<Line> for [u64; WORDS] {
     }
 }
 
-// The line p of a table.
+/// The line p of a table.
 pub fn read_line(words: &[u64], p: usize) -> Line
     requires { 3 * p + 3 ≤ length words.now }
     ensures { result ≡ line_at words.now p }
@@ -104,7 +104,7 @@ pub fn read_line(words: &[u64], p: usize) -> Line
     Line::from([words[at], words[at + 1], words[at + 2]])
 }
 
-// Reading the line p gives then what was written, and the other lines are as they were.
+/// Reading the line p gives then what was written, and the other lines are as they were.
 pub fn write_line(words: &mut [u64], p: usize, line: Line)
     requires { 3 * p + 3 ≤ length words.old }
     ensures written { line_at words.new p ≡ line }

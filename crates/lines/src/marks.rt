@@ -6,7 +6,7 @@ ghost use Rattle.lines.specs.Marks.{marks_in, stale, backed, line_back, left_bac
 use crate::line::Line;
 use crate::ring::{Lines, Ring};
 
-// How many marks stand.
+/// How many marks stand.
 pub fn marks_in(lines: Lines) -> usize
     ensures is { result ≡ marks_in lines.entry }
     ensures few { result ≤ length lines.entry }
@@ -28,7 +28,7 @@ fn stale_line(line: Line) -> Line
     }
 }
 
-// The first `stay` marks stay, and what stands before the last of them.
+/// The first `stay` marks stay, and what stands before the last of them.
 pub fn go_back(words: &mut [u64], ring: Ring, stay: usize)
     requires { Holds words.old ring }
     ensures lines { lines_of words.new ring ≡ backed stay (lines_of words.old ring) }

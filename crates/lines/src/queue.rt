@@ -8,7 +8,7 @@ use crate::line::Line;
 use crate::ring::{Lines, Ring};
 use crate::tables::{QUEUE_AT, TABLES_END};
 
-// The records of the queue.
+/// The records of the queue.
 pub fn records_of<'a>(room: &'a [u64], queue: Ring) -> Lines<'a>
     requires { QueueIn room.now queue }
     ensures { result ≡ queue_lines room.now queue }
@@ -16,7 +16,7 @@ pub fn records_of<'a>(room: &'a [u64], queue: Ring) -> Lines<'a>
     queue.lines(&room[QUEUE_AT..TABLES_END])
 }
 
-// One more record at the queue's end.
+/// One more record at the queue's end.
 pub fn add_record(room: &mut [u64], queue: Ring, line: Line) -> Ring
     requires { (QueueIn room.old queue) × (queue.count < 32768) }
     ensures lines { queue_lines room.new result ≡ queue_lines room.old queue ++ line ∷ [] }
@@ -26,7 +26,7 @@ pub fn add_record(room: &mut [u64], queue: Ring, line: Line) -> Ring
     queue.push(&mut room[QUEUE_AT..TABLES_END], line)
 }
 
-// Each record becomes what `change` makes of it, from the first on.
+/// Each record becomes what `change` makes of it, from the first on.
 pub fn change_records<F: FnMut(Line) -> Line>(room: &mut [u64], queue: Ring, change: F)
     requires room { QueueIn room.old queue }
     requires callable { F.IsAlwaysCallable change }
@@ -36,7 +36,7 @@ pub fn change_records<F: FnMut(Line) -> Line>(room: &mut [u64], queue: Ring, cha
     queue.change_all(&mut room[QUEUE_AT..TABLES_END], change);
 }
 
-// The first record of a queue that has one, and the queue without it. No word is written.
+/// The first record of a queue that has one, and the queue without it. No word is written.
 pub fn front_of(room: &[u64], queue: Ring) -> (Line, Ring)
     requires { (QueueIn room.now queue) × (0 < queue.count) }
     ensures lines { queue_lines room.now queue ≡ result.0 ∷ queue_lines room.now result.1 }

@@ -7,8 +7,8 @@ ghost use Rattle.lines.specs.Changes.{ChangesTo};
 use crate::line::{Line, read_line, write_line};
 use std::marker::Model;
 
-// `cap`: how many lines the table can hold; `start`: where the first of them stands; `count`: how many there are.
-// They go on at the table's start where they come to its end.
+/// `cap`: how many lines the table can hold; `start`: where the first of them stands; `count`: how many there are.
+/// They go on at the table's start where they come to its end.
 #[derive(Clone, Copy, PartialEq, Eq, Debug)]
 pub struct Ring {
     pub cap: usize,
@@ -16,7 +16,7 @@ pub struct Ring {
     pub count: usize,
 }
 
-// The lines of a ring that are left to be read, from either end.
+/// The lines of a ring that are left to be read, from either end.
 #[derive(Drop)]
 pub struct Lines<'a> {
     words: &'a [u64],
@@ -49,7 +49,7 @@ impl Ring {
         if p < self.cap { p } else { p - self.cap }
     }
 
-    // Its lines, to be read one after the other.
+    /// Its lines, to be read one after the other.
     pub fn lines<'a>(self, words: &'a [u64]) -> Lines<'a>
         requires { Holds words.now self }
         ensures { result ≡ lines_of words.now self }
@@ -59,7 +59,7 @@ impl Ring {
 
     // A ring can be made of any numbers, so each call that is lent the words asks that they hold it.
 
-    // One more line at the end of a ring that has room for it.
+    /// One more line at the end of a ring that has room for it.
     pub fn push(self, words: &mut [u64], line: Line) -> Ring
         requires { (Holds words.old self) × (self.count < self.cap) }
         ensures lines { lines_of words.new result ≡ lines_of words.old self ++ line ∷ [] }
@@ -73,7 +73,7 @@ impl Ring {
         }
     }
 
-    // The first line of a ring that has one, and the ring of the others.
+    /// The first line of a ring that has one, and the ring of the others.
     pub fn pop_front(self, words: &[u64]) -> (Line, Ring)
         requires { (Holds words.now self) × (0 < self.count) }
         ensures lines { lines_of words.now self ≡ result.0 ∷ lines_of words.now result.1 }
@@ -94,7 +94,7 @@ impl Ring {
         (line, rest)
     }
 
-    // The last line of a ring that has one, and the ring of the others.
+    /// The last line of a ring that has one, and the ring of the others.
     pub fn pop_back(self, words: &[u64]) -> (Line, Ring)
         requires { (Holds words.now self) × (0 < self.count) }
         ensures lines { lines_of words.now self ≡ lines_of words.now result.1 ++ result.0 ∷ [] }
@@ -109,7 +109,7 @@ impl Ring {
         (read_line(words, self.spot(last)), rest)
     }
 
-    // Writes the line i of the ring, and no other.
+    /// Writes the line i of the ring, and no other.
     pub fn set(self, words: &mut [u64], i: usize, line: Line)
         requires { (Holds words.old self) × (i < self.count) }
         ensures { lines_of words.new self ≡ slice_set (lines_of words.old self) i line }
@@ -117,7 +117,7 @@ impl Ring {
         write_line(words, self.spot(i), line);
     }
 
-    // Each line becomes what `change` makes of it, from the first on.
+    /// Each line becomes what `change` makes of it, from the first on.
     pub fn change_all<F: FnMut(Line) -> Line>(self, words: &mut [u64], mut change: F)
         requires holds { Holds words.old self }
         requires callable { F.IsAlwaysCallable change }
@@ -132,7 +132,7 @@ impl Ring {
 }
 
 impl<'a> Lines<'a> {
-    // How many are left.
+    /// How many are left.
     pub fn len(&self) -> usize
         ensures is { result ≡ length self.now }
         ensures few { result ≤ 65536 }
@@ -140,7 +140,7 @@ impl<'a> Lines<'a> {
         self.ring.count
     }
 
-    // The line i of those that are left.
+    /// The line i of those that are left.
     pub fn at(&self, i: usize) -> Line
         requires { i < length self.now }
         ensures { result ≡ slice_index_or self.now i Idle }

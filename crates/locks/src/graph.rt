@@ -12,8 +12,8 @@ pub struct WaitGraph {
     sets: [ClerkSet; CLERKS],
 }
 
-// Who gets on, at which place of the order; by a clash, if it is on a ring.
-// Either way there are a place and a clerk, so the clash is a fact of its own beside them.
+/// Who gets on, at which place of the order; by a clash, if it is on a ring.
+/// Either way there are a place and a clerk, so the clash is a fact of its own beside them.
 #[derive(Clone, Copy, PartialEq, Eq, Debug)]
 pub struct Pick {
     pub place: usize,
@@ -22,7 +22,7 @@ pub struct Pick {
 }
 
 impl WaitGraph {
-    // Nobody waits.
+    /// Nobody waits.
     pub fn none() -> WaitGraph
         ensures { (d e : ℕ) → waits_in result d e ≡ false }
     {
@@ -37,7 +37,7 @@ impl WaitGraph {
         self.sets[clerk.index()]
     }
 
-    // From now on the clerk waits for these.
+    /// From now on the clerk waits for these.
     pub fn put(&mut self, clerk: Clerk, set: ClerkSet)
         ensures put { (e : ℕ) → waits_in self.new clerk e ≡ is_in set e }
         ensures others { (d e : ℕ) → (d ≢ clerk) → waits_in self.new d e ≡ waits_in self.old d e }
@@ -69,28 +69,28 @@ impl WaitGraph {
         all
     }
 
-    // Does the clerk wait, by way of any others, for itself.
+    /// Does the clerk wait, by way of any others, for itself.
     pub fn on_ring(&self, clerk: Clerk) -> bool
         ensures { result ≡ ring_by (waits_in self.now) clerk }
     {
         self.reach(self.waits_of(clerk)).contains(clerk)
     }
 
-    // Does the clerk wait for nobody.
+    /// Does the clerk wait for nobody.
     pub fn is_free(&self, clerk: Clerk) -> bool
         ensures { result ≡ not (some_of 32 (waits_in self.now clerk)) }
     {
         self.waits_of(clerk).is_empty()
     }
 
-    // Does it get on: is it free, or on a ring.
+    /// Does it get on: is it free, or on a ring.
     pub fn counts(&self, clerk: Clerk) -> bool
         ensures { result ≡ counts_by (waits_in self.now) clerk }
     {
         self.is_free(clerk) || self.on_ring(clerk)
     }
 
-    // The first in the order who counts. The order has the clerks by their numbers, as the room keeps it.
+    /// The first in the order who counts. The order has the clerks by their numbers, as the room keeps it.
     pub fn choose(&self, order: &[u64]) -> Option<Pick>
         requires { (k : ℕ) → k < length order.now → slice_index order.now k < 32 }
         ensures { Chosen (waits_in self.now) order.now result }

@@ -16,7 +16,7 @@ impl ClerkSet {
         ClerkSet { bits: 0 }
     }
 
-    // The clerks whom `choose` takes in.
+    /// The clerks whom `choose` takes in.
     pub fn those<F: Fn(Clerk) -> bool>(choose: F) -> ClerkSet
         requires { F.IsAlwaysCallable choose }
         ensures each { (k : ℕ) → k < 32 → F.post choose k (is_in result k) }

@@ -5,9 +5,9 @@ ghost use Rattle.locks.specs.Bars.{within, written, looks_key, bars, some_bars};
 use lines::line::Line;
 use lines::ring::Lines;
 
-// What an asking touches: nothing, a key that it looks at, a key that it writes,
-// or all keys above one, up to the key that it would find, if any.
-// Nothing is one of the four beside the others, since each is matched with the lines in its way.
+/// What an asking touches: nothing, a key that it looks at, a key that it writes,
+/// or all keys above one, up to the key that it would find, if any.
+/// Nothing is one of the four beside the others, since each is matched with the lines in its way.
 #[derive(Clone, Copy, PartialEq, Eq, Debug)]
 pub enum Want {
     Nothing,
@@ -46,7 +46,7 @@ fn looks_at(line: Line, key: u64) -> bool
     }
 }
 
-// Is a line in the way of what is wanted: do they touch one key, and one of the two writes there.
+/// Is a line in the way of what is wanted: do they touch one key, and one of the two writes there.
 pub fn is_in_way(line: Line, want: Want) -> bool
     ensures { result ≡ bars want line }
 {
@@ -58,7 +58,7 @@ pub fn is_in_way(line: Line, want: Want) -> bool
     }
 }
 
-// Is one of the lines in the way.
+/// Is one of the lines in the way.
 pub fn in_way(mut lines: Lines, want: Want) -> bool
     ensures { result ≡ some_bars want lines.entry }
 {

@@ -7,7 +7,7 @@ use crate::cuts::Due;
 use crate::lent::NoRoom;
 use deals::Gone;
 
-// Why an asking isn't served: a cut comes with it, or the power was off.
+/// Why an asking isn't served: a cut comes with it, or the power was off.
 #[derive(Clone, Copy, Debug, PartialEq, Eq)]
 pub enum Outage {
     Cut,
@@ -21,15 +21,15 @@ impl From<Outage> for Gone {
 }
 
 impl<'a> MemDisk<'a> {
-    // How many cuts are set.
+    /// How many cuts are set.
     pub fn pending(&self) -> usize
         ensures { result ≡ length (dues_in self.now) }
     {
         self.due.len()
     }
 
-    // The power goes at the n-th asking from here on, and at 0 at once. Where no more cuts can be set nothing changes.
-    // Two numbers and no `Due`, which is a cut that is still to come: at 0 there is none.
+    /// The power goes at the n-th asking from here on, and at 0 at once. Where no more cuts can be set nothing changes.
+    /// Two numbers and no `Due`, which is a cut that is still to come: at 0 there is none.
     pub fn set_cut(&mut self, n: u64, choice: u64) -> Result<(), NoRoom>
         ensures told { is_ok result ≡ (n == 0 || nat_lt (length (dues_in self.old)) (cut_room self.old)) }
         ensures dues { dues_in self.new ≡ with_cut (cut_room self.old) (record { asks = n; choice = choice }) (dues_in self.old) }

@@ -4,7 +4,7 @@ ghost use Rattle.memdisk.specs.Dues.{later, coming};
 
 use crate::lent::Lent;
 
-// A cut that is set: with which asking from here on it comes, and the choice of what it leaves.
+/// A cut that is set: with which asking from here on it comes, and the choice of what it leaves.
 #[derive(Clone, Copy, Debug, PartialEq, Eq)]
 pub struct Due {
     pub(crate) asks: u64,
@@ -12,7 +12,7 @@ pub struct Due {
 }
 
 impl Due {
-    // What to lend before anything is set.
+    /// What to lend before anything is set.
     pub const BLANK: Due = Due { asks: 0, choice: 0 };
 
     // Whether the cut comes with the next asking.
@@ -24,8 +24,8 @@ impl Due {
 }
 
 impl<'a> Lent<'a, Due> {
-    // One asking: a cut that comes with it is no longer set, and the others are one asking nearer. Gives the choice of
-    // the last that came.
+    /// One asking: a cut that comes with it is no longer set, and the others are one asking nearer. Gives the choice of
+    /// the last that came.
     pub fn count_down(&mut self) -> Option<u64>
         ensures left { self.new.items ≡ later self.old.items }
         ensures room { self.new.room ≡ self.old.room }

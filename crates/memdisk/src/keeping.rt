@@ -8,7 +8,7 @@ use crate::MemDisk;
 use crate::mix::mix;
 use pages::{PAGE_WORDS, page, pages_in, put_page};
 
-// What a page held once.
+/// What a page held once.
 #[derive(Clone, Copy, Debug, PartialEq, Eq)]
 pub struct Entry {
     page: u64,
@@ -16,7 +16,7 @@ pub struct Entry {
 }
 
 impl Entry {
-    // What to lend before anything is kept.
+    /// What to lend before anything is kept.
     pub const BLANK: Entry = Entry {
         page: 0,
         words: [0; PAGE_WORDS],
@@ -48,7 +48,7 @@ fn pick(choice: u64, entries: &[Entry], p: u64) -> usize
     (mix(choice, p) % (count_of(entries, p) as u64 + 1)) as usize
 }
 
-// Makes of each page what the choice leaves of it. Only pages with entries can change.
+/// Makes of each page what the choice leaves of it. Only pages with entries can change.
 pub fn leave(shown: &mut [u64], entries: &[Entry], choice: u64)
     ensures { (p : ℕ) → p < pages_in shown.old → page_at shown.new p ≡ chosen choice shown.old entries.now p }
 {

@@ -6,11 +6,11 @@ ghost use Rattle.memdisk.specs.Bounded.{Bounded};
 
 use std::marker::Model;
 
-// There is no room for one more.
+/// There is no room for one more.
 #[derive(Clone, Copy, Debug, PartialEq, Eq)]
 pub struct NoRoom;
 
-// The items are the first so many of the slots. Clauses see them, and how many there is room for.
+/// The items are the first so many of the slots. Clauses see them, and how many there is room for.
 #[derive(Drop)]
 pub struct Lent<'a, T> {
     slots: &'a mut [T],
@@ -29,28 +29,28 @@ impl<'a, T> Model for Lent<'a, T> {
 }
 
 impl<'a, T: Copy> Lent<'a, T> {
-    // Nothing yet, whatever the slots hold.
+    /// Nothing yet, whatever the slots hold.
     pub fn new(slots: &'a mut [T]) -> Lent<'a, T>
         ensures { result ≡ record { items = []; room = length slots.old } }
     {
         Lent { slots, len: 0 }
     }
 
-    // In the order in which they came.
+    /// In the order in which they came.
     pub fn items(&self) -> &[T]
         ensures { result.now ≡ self.now.items }
     {
         &self.slots[..self.len]
     }
 
-    // How many items there are, not how many slots.
+    /// How many items there are, not how many slots.
     pub fn len(&self) -> usize
         ensures { result ≡ length self.now.items }
     {
         self.len
     }
 
-    // Whether there is no room for one more. With no slots it is always so.
+    /// Whether there is no room for one more. With no slots it is always so.
     pub fn is_full(&self) -> bool
         ensures full { IsTrue result ↔ (length self.now.items ≡ self.now.room) }
         ensures within { length self.now.items ≤ self.now.room }
@@ -58,14 +58,14 @@ impl<'a, T: Copy> Lent<'a, T> {
         self.len == self.slots.len()
     }
 
-    // The slots keep what they hold, but none of it is an item.
+    /// The slots keep what they hold, but none of it is an item.
     pub fn clear(&mut self)
         ensures { self.new ≡ record { items = []; room = self.old.room } }
     {
         self.len = 0;
     }
 
-    // Behind the others. A full list stays as it is.
+    /// Behind the others. A full list stays as it is.
     pub fn try_push(&mut self, item: T) -> Result<(), NoRoom>
         ensures room { IsOk result ↔ (length self.old.items < self.old.room) }
         ensures pushed { OnOk result (self.new ≡ record { items = self.old.items ++ item ∷ []; room = self.old.room }) }
@@ -79,7 +79,7 @@ impl<'a, T: Copy> Lent<'a, T> {
         Ok(())
     }
 
-    // What the closure says `true` of stays, as it left it.
+    /// What the closure says `true` of stays, as it left it.
     pub fn retain_mut<F: FnMut(&mut T) -> bool>(&mut self, keep: F)
         requires { F.IsAlwaysCallable keep }
         ensures kept { RetainsInTurn (CalledAtMut F.FnMut) keep self.old.items self.new.items }

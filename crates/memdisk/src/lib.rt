@@ -19,10 +19,10 @@ pub use cuts::Due;
 pub use keeping::Entry;
 pub use lent::NoRoom;
 
-// What it holds is lent. `shown` has the pages as they are read, one behind the other. `saved` is a table of what pages
-// held before a write since the last sync, the oldest first: what a cut may leave of a page is what it shows, or one of
-// its entries. `due` has the cuts that are set, and `cut` the choice of the one that came: there is none while the power
-// is on.
+/// What it holds is lent. `shown` has the pages as they are read, one behind the other. `saved` is a table of what pages
+/// held before a write since the last sync, the oldest first: what a cut may leave of a page is what it shows, or one of
+/// its entries. `due` has the cuts that are set, and `cut` the choice of the one that came: there is none while the power
+/// is on.
 #[derive(Drop)]
 pub struct MemDisk<'a> {
     shown: &'a mut [u64],
@@ -33,7 +33,7 @@ pub struct MemDisk<'a> {
 }
 
 impl<'a> MemDisk<'a> {
-    // A blank disk.
+    /// A blank disk.
     pub fn new(shown: &'a mut [u64], saved: &'a mut [Entry], cuts: &'a mut [Due]) -> MemDisk<'a>
         ensures fresh { Fresh shown.old result }
         ensures entries { room_of result ≡ length saved.old }

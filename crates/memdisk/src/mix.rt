@@ -12,7 +12,7 @@ fn stir(z: u64, k: u32, factor: u64) -> u64
     (z ^ (z >> k)).wrapping_mul(factor)
 }
 
-// Splitmix64, from a state made of both.
+/// Splitmix64, from a state made of both.
 #[tactic(auto, unfolding(crate::specs::Mixing::mix_of, crate::specs::Mixing::splitmix))]
 pub fn mix(choice: u64, n: u64) -> u64
     ensures { result ≡ mix_of choice n }
@@ -22,7 +22,7 @@ pub fn mix(choice: u64, n: u64) -> u64
     z ^ (z >> 31)
 }
 
-// Words that nothing can have meant.
+/// Words that nothing can have meant.
 pub fn scramble(room: &mut [u64], choice: u64)
     ensures { (i : ℕ) → i < length room.new → slice_index room.new i ≡ mix_of choice i }
 {

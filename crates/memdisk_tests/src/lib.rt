@@ -7,7 +7,7 @@ ghost use Rattle.deals.specs.Disk.{at, Within};
 use deals::{Gone, Power};
 use pages::PAGE_WORDS;
 
-// Why a page isn't served.
+/// Why a page isn't served.
 #[derive(Clone, Copy, Debug, PartialEq, Eq)]
 pub enum Unserved {
     NoSuchPage,
@@ -25,7 +25,7 @@ impl From<Gone> for Unserved {
     }
 }
 
-// Fills page p with x.
+/// Fills page p with x.
 pub fn put<D: Power>(d: &mut D, p: u64, x: u64) -> Result<(), Unserved>
     ensures absent { IsErrOf result Unserved.NoSuchPage ↔ ((D.disk d.old).pages ≤ p) }
     ensures shows { OnOk result ((D.disk d.new).shown ≡ at p (replicate 512 x) (D.disk d.old).shown) }
@@ -38,7 +38,7 @@ pub fn put<D: Power>(d: &mut D, p: u64, x: u64) -> Result<(), Unserved>
     Ok(())
 }
 
-// The first word of page p.
+/// The first word of page p.
 pub fn get<D: Power>(d: &mut D, p: u64) -> Result<u64, Unserved>
     ensures absent { IsErrOf result Unserved.NoSuchPage ↔ ((D.disk d.old).pages ≤ p) }
     ensures shown { IfOk result (λ x. x ≡ slice_index ((D.disk d.old).shown p) 0) }
@@ -53,7 +53,7 @@ pub fn get<D: Power>(d: &mut D, p: u64) -> Result<u64, Unserved>
     Ok(page[0])
 }
 
-// What is shown now lasts: a cut leaves of each page just that.
+/// What is shown now lasts: a cut leaves of each page just that.
 pub fn flush<D: Power>(d: &mut D) -> Result<(), Unserved>
     ensures same { (D.disk d.new).shown ≡ (D.disk d.old).shown }
     ensures lasts { OnOk result (Within (D.disk d.new).may (λ p. (D.disk d.old).shown p ∷ [])) }

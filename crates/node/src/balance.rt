@@ -31,7 +31,7 @@ impl Node {
         self.words[COUNT] = h as u64;
     }
 
-    // Puts the entry at place i of a full node, whose later half goes to another one. That one is lent: a node that is handed out is a page more on the stack.
+    /// Puts the entry at place i of a full node, whose later half goes to another one. That one is lent: a node that is handed out is a page more on the stack.
     pub fn split_in(&mut self, later: &mut Node, i: usize, entry: Entry)
         requires full { length self.old.pairs ≡ capacity }
         requires place { i ≤ capacity }
@@ -66,7 +66,7 @@ impl Node {
         self.words[COUNT] = (n + m) as u64;
     }
 
-    // Makes one node of two where that leaves room; else gives a thin one of them an entry of the other, and tells the first key of the right.
+    /// Makes one node of two where that leaves room; else gives a thin one of them an entry of the other, and tells the first key of the right.
     pub fn join(&mut self, right: &mut Node) -> Option<u64>
         requires { Neighbours self.old right.old }
         ensures joined { Joins self.new right.new self.old.level (self.old.pairs ++ right.old.pairs) result }
@@ -86,7 +86,7 @@ impl Node {
         Some(right.entry(0).0)
     }
 
-    // Makes the entries at j and the next of an inner node those of the joined children.
+    /// Makes the entries at j and the next of an inner node those of the joined children.
     pub fn amend(&mut self, j: usize, more: Option<u64>)
         requires { j + 1 < length self.old.pairs }
         ensures { self.new ≡ record self.old { pairs = amended self.old.pairs j more } }

@@ -8,7 +8,7 @@ use crate::{COUNT, Entry, KEYS, Node, WORDS};
 use pages::PAGE_WORDS;
 
 impl Node {
-    // Puts the entry at place i.
+    /// Puts the entry at place i.
     pub fn insert_at(&mut self, i: usize, entry: Entry)
         requires room { length self.old.pairs < capacity }
         requires place { i ≤ length self.old.pairs }
@@ -20,7 +20,7 @@ impl Node {
         self.words[COUNT] = n as u64 + 1;
     }
 
-    // Takes out the entry at place i.
+    /// Takes out the entry at place i.
     pub fn remove_at(&mut self, i: usize) -> Entry
         requires { i < length self.old.pairs }
         ensures entry { result ≡ slice_index_or self.old.pairs i (0, 0) }
@@ -34,7 +34,7 @@ impl Node {
         entry
     }
 
-    // Puts the entry in the stead of the one at place i.
+    /// Puts the entry in the stead of the one at place i.
     pub fn set(&mut self, i: usize, entry: Entry)
         requires { i < length self.old.pairs }
         ensures { self.new ≡ record self.old { pairs = slice_set self.old.pairs i entry } }

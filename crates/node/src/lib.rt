@@ -15,11 +15,11 @@ use pages::PAGE_WORDS;
 pub use search::Way;
 use std::marker::Model;
 
-// The most entries of a node.
+/// The most entries of a node.
 pub const CAPACITY: usize = 255;
-// The fewest entries of a node that isn't the root: a third, so that a join or a loan always reaches it.
+/// The fewest entries of a node that isn't the root: a third, so that a join or a loan always reaches it.
 pub const LEAST: usize = 85;
-// Two nodes become one only up to so many entries, so that the next put doesn't split it again.
+/// Two nodes become one only up to so many entries, so that the next put doesn't split it again.
 pub const JOIN_MOST: usize = 240;
 
 const COUNT: usize = 0;
@@ -32,10 +32,10 @@ const WORDS: usize = KEYS + CAPACITY;
 // A full node and one more entry are shared in two equal halves.
 const HALF: usize = 128;
 
-// An entry: a key and its word.
+/// An entry: a key and its word.
 pub type Entry = (u64, u64);
 
-// A node, in the words of its page. A clause sees its level and its entries. It owns its words, since a page is copied out of its store in any case, and nothing of a store is lent while a node is changed; whoever has a lent page makes a node of it by a copy.
+/// A node, in the words of its page. A clause sees its level and its entries. It owns its words, since a page is copied out of its store in any case, and nothing of a store is lent while a node is changed; whoever has a lent page makes a node of it by a copy.
 #[derive(Drop)]
 pub struct Node {
     words: [u64; PAGE_WORDS],
@@ -50,7 +50,7 @@ impl Model for Node {
 }
 
 impl Node {
-    // A node without entries.
+    /// A node without entries.
     pub fn new(level: u64) -> Node
         ensures { result ≡ record { level = level; pairs = [] } }
     {
@@ -59,7 +59,7 @@ impl Node {
         Node { words }
     }
 
-    // The node that a page holds.
+    /// The node that a page holds.
     pub fn from_words(words: [u64; PAGE_WORDS]) -> Node
         requires { IsNode words }
         ensures { result ≡ contents_of words }
@@ -67,14 +67,14 @@ impl Node {
         Node { words }
     }
 
-    // The page that holds the node.
+    /// The page that holds the node.
     pub fn words(&self) -> &[u64]
         ensures { Page result.now self.now.level self.now.pairs }
     {
         &self.words
     }
 
-    // How many entries the node has.
+    /// How many entries the node has.
     pub fn len(&self) -> usize
         ensures is { result ≡ length self.now.pairs }
         ensures few { result ≤ capacity }
@@ -89,7 +89,7 @@ impl Node {
         &self.words[KEYS..WORDS][..self.len()]
     }
 
-    // The entry at place i. That there is one stands with each function that takes a place, as with the index of a slice.
+    /// The entry at place i. That there is one stands with each function that takes a place, as with the index of a slice.
     pub fn entry(&self, i: usize) -> Entry
         requires { i < length self.now.pairs }
         ensures { result ≡ slice_index_or self.now.pairs i (0, 0) }
@@ -98,7 +98,7 @@ impl Node {
         (words[KEYS + i], words[WORDS + i])
     }
 
-    // The entry at place i, if there are so many.
+    /// The entry at place i, if there are so many.
     pub fn nth(&self, i: usize) -> Option<Entry>
         ensures { result ≡ slice_get self.now.pairs i }
     {

@@ -48,7 +48,7 @@ fn give_back(marks: &mut [u64], p: u64)
     marks[FREE] = n + 1;
 }
 
-// Pages in two lent slices.
+/// Pages in two lent slices.
 #[derive(Drop)]
 pub struct PageMem<'a> {
     marks: &'a mut [u64],

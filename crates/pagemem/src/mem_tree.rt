@@ -9,7 +9,7 @@ use crate::{FIRST, FREE, PageMem};
 use node::Entry;
 use tree::TreeRoot;
 
-// Marks every page free: a store of as many pages as there are marks but the first, with an empty tree.
+/// Marks every page free: a store of as many pages as there are marks but the first, with an empty tree.
 pub fn set_up(marks: &mut [u64], words: &[u64]) -> TreeRoot
     requires { (0 < length marks.old) × ((length marks.old ≤ 4294967297) × (page_words * (length marks.old - 1) ≤ length words.now)) }
     ensures good { Good marks.new words.now result }
@@ -21,8 +21,8 @@ pub fn set_up(marks: &mut [u64], words: &[u64]) -> TreeRoot
     TreeRoot { page: 0, height: 0 }
 }
 
-// A tree with the marks and the words that it stands in. That it is usable stands in the clauses: a ghost field for it owes its proof where the store of pages made of both parts ends,
-// and there the check doesn't know what the parts hold then (the goal that stayed open is `invariant_of-self`, in all four calls).
+/// A tree with the marks and the words that it stands in. That it is usable stands in the clauses: a ghost field for it owes its proof where the store of pages made of both parts ends,
+/// and there the check doesn't know what the parts hold then (the goal that stayed open is `invariant_of-self`, in all four calls).
 #[derive(Drop)]
 pub struct MemTree<'a, 'b> {
     marks: &'a mut [u64],
@@ -31,7 +31,7 @@ pub struct MemTree<'a, 'b> {
 }
 
 impl<'a, 'b> MemTree<'a, 'b> {
-    // The tree that stands in the slices at the root.
+    /// The tree that stands in the slices at the root.
     pub fn open(marks: &'a mut [u64], words: &'b mut [u64], root: TreeRoot) -> MemTree<'a, 'b>
         requires { Good marks.old words.old root }
         ensures is { StandsIn result marks.old words.old root }
@@ -41,14 +41,14 @@ impl<'a, 'b> MemTree<'a, 'b> {
         MemTree { marks, words, root }
     }
 
-    // Where the tree stands.
+    /// Where the tree stands.
     pub fn root(&self) -> TreeRoot
         ensures { result ≡ self.now.root }
     {
         self.root
     }
 
-    // How many pages are free.
+    /// How many pages are free.
     pub fn free_pages(&self) -> u64
         requires { IsUsable self.now }
         ensures { result ≡ free_pages self.now }
@@ -58,7 +58,7 @@ impl<'a, 'b> MemTree<'a, 'b> {
 
     // Each call below makes the store of pages anew: a function that lent both parts out of `&mut self` would not be known to give them back.
 
-    // The word at k.
+    /// The word at k.
     pub fn get(&mut self, k: u64) -> Option<u64>
         requires { IsUsable self.old }
         ensures got { result ≡ find k (pairs self.old) }
@@ -74,7 +74,7 @@ impl<'a, 'b> MemTree<'a, 'b> {
         self.root.get(&mut mem, k).unwrap()
     }
 
-    // The first pair with a key above k.
+    /// The first pair with a key above k.
     pub fn next(&mut self, k: u64) -> Option<Entry>
         requires { IsUsable self.old }
         ensures got { result ≡ above k (pairs self.old) }
@@ -90,7 +90,7 @@ impl<'a, 'b> MemTree<'a, 'b> {
         self.root.next(&mut mem, k).unwrap()
     }
 
-    // Puts the pair (k, x), unless fewer pages are free than the put could take; whether the key is new.
+    /// Puts the pair (k, x), unless fewer pages are free than the put could take; whether the key is new.
     pub fn put(&mut self, k: u64, x: u64) -> Option<bool>
         requires { IsUsable self.old }
         ensures usable { IsUsable self.new }
@@ -108,7 +108,7 @@ impl<'a, 'b> MemTree<'a, 'b> {
         Some(self.root.put(&mut mem, k, x).unwrap())
     }
 
-    // Drops the pair at k; whether it was there.
+    /// Drops the pair at k; whether it was there.
     pub fn drop(&mut self, k: u64) -> bool
         requires { IsUsable self.old }
         ensures usable { IsUsable self.new }

@@ -1,6 +1,6 @@
 #![tactic(auto)]
 
-// The tree's pages on the store.
+/// The tree's pages on the store.
 pub fn placeholder() -> u8 {
     0
 }

@@ -4,7 +4,7 @@
 ghost use Rattle.paired.specs.Paired.{PutIs, DropIs, FindIs, NextIs, OntoIs};
 ghost use Rattle.paired.specs.Told.{GetTold, DropTold, NextTold, LeavesTold};
 
-// Each is a law between the statements' book and pairs with rising keys.
+/// Each is a law between the statements' book and pairs with rising keys.
 pub fn book_is_pairs() -> u8
     ensures put { PutIs }
     ensures drop { DropIs }
@@ -15,7 +15,7 @@ pub fn book_is_pairs() -> u8
     0
 }
 
-// What the statements tell a deal is what is found in the tree's pairs after the queue's writes and the deal's own.
+/// What the statements tell a deal is what is found in the tree's pairs after the queue's writes and the deal's own.
 pub fn deal_sees() -> u8
     ensures get { GetTold }
     ensures drop { DropTold }

@@ -20,7 +20,7 @@ const ASKS_TO_OPEN: u64 = 4_194_304;
 // How often a turn may ask the disk.
 const ASKS_IN_A_TURN: u64 = 512;
 
-// The office in one of its lives, the first being 1, and the turns that it had in it.
+/// The office in one of its lives, the first being 1, and the turns that it had in it.
 #[derive(Drop)]
 pub struct Life {
     office: Office,
@@ -40,7 +40,7 @@ impl<D: Power, S> Stage<'_, D, S> {
 }
 
 impl<D: Power, S: Sink> Stage<'_, D, S> {
-    // The life after so many; a later one where the power goes while it opens. None where it was the last.
+    /// The life after so many; a later one where the power goes while it opens. None where it was the last.
     pub fn next_life(&mut self, past: u64) -> Option<Life>
         ensures later { IfSome result (λ life. (past < life.number) × (life.turns ≡ 0)) }
         ensures lent { SameLoans self.old self.new }
@@ -69,14 +69,14 @@ impl Life {
         self.number
     }
 
-    // Are there as many turns left.
+    /// Are there as many turns left.
     pub fn has_turns(&self, n: u64) -> bool
         ensures { result ≡ nat_le (self.now.turns + n) 16777215 }
     {
         n <= LAST_TURN - self.turns
     }
 
-    // Who asks and what stay apart, as the office takes them.
+    /// Who asks and what stay apart, as the office takes them.
     pub fn ask(&mut self, room: &mut [u64], who: Clerk, op: Op)
         ensures number { self.new.number ≡ self.old.number }
         ensures turns { self.new.turns ≡ self.old.turns }
@@ -84,7 +84,7 @@ impl Life {
         self.office.ask(room, who.number(), op);
     }
 
-    // One turn of the office. Gives who is told, and what.
+    /// One turn of the office. Gives who is told, and what.
     pub fn turn<D: Power>(
         &mut self,
         d: &mut D,

@@ -48,7 +48,7 @@ pub struct Player {
 }
 
 impl Player {
-    // The first life; None where the power went in each.
+    /// The first life; None where the power went in each.
     pub fn begin<D: Power, S: Sink>(stage: &mut Stage<'_, D, S>) -> Option<Player>
         ensures lent { SameLoans stage.old stage.new }
     {
@@ -304,7 +304,7 @@ impl Player {
         self.play(command, stage)
     }
 
-    // Plays the line of that number.
+    /// Plays the line of that number.
     pub fn play_line<D: Power + Cuts, S: Sink>(
         &mut self,
         number: u64,

@@ -6,7 +6,7 @@ use clerk::{CLERKS, Clerk};
 use deals::{Answer, Op};
 use std::marker::Model;
 
-// The three states of a clerk. To be free is one of them and no missing value.
+/// The three states of a clerk. To be free is one of them and no missing value.
 #[derive(Clone, Copy, Debug, PartialEq, Eq)]
 pub enum Seat {
     // no deal, and nothing under way
@@ -17,7 +17,7 @@ pub enum Seat {
     Asked(bool),
 }
 
-// A seat for each clerk. Clauses see them in the clerks' order.
+/// A seat for each clerk. Clauses see them in the clerks' order.
 #[derive(Drop)]
 pub struct Seats {
     list: [Seat; CLERKS],
@@ -71,7 +71,7 @@ impl Seats {
         self.list[who.index()] = Seat::Asked(op.is_end());
     }
 
-    // Nobody sits past the last clerk.
+    /// Nobody sits past the last clerk.
     pub fn tell(&mut self, who: u32, answer: Answer)
         ensures { self.new ≡ told who answer self.old }
     {
@@ -81,7 +81,7 @@ impl Seats {
         }
     }
 
-    // The first clerk who has no deal and nothing under way.
+    /// The first clerk who has no deal and nothing under way.
     pub fn first_free(&self) -> Option<Clerk>
         ensures { MatchOption result ((k : ℕ) → k < 32 → is_free (slice_index_or self.now k Seat.Free) ≡ false) (λ w. (w < 32) × (is_free (slice_index_or self.now w Seat.Free) ≡ true) × ((k : ℕ) → k < w → is_free (slice_index_or self.now k Seat.Free) ≡ false)) }
     {

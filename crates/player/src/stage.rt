@@ -8,7 +8,7 @@ use crate::sink::Sink;
 use deals::Power;
 use script::Output;
 
-// The disk, the room in memory, and where what is printed goes. All three are lent.
+/// The disk, the room in memory, and where what is printed goes. All three are lent.
 #[derive(Drop)]
 pub struct Stage<'a, D, S> {
     pub disk: &'a mut D,
@@ -17,7 +17,7 @@ pub struct Stage<'a, D, S> {
 }
 
 impl<'a, D, S> Stage<'a, D, S> {
-    // One lifetime stands for the three loans.
+    /// One lifetime stands for the three loans.
     pub fn new(disk: &'a mut D, room: &'a mut [u64], out: &'a mut S) -> Stage<'a, D, S>
         ensures { (result.disk ≡ disk.entry) × (result.room ≡ room.entry) × (result.out ≡ out.entry) }
     {
@@ -26,7 +26,7 @@ impl<'a, D, S> Stage<'a, D, S> {
 }
 
 impl<D: Power, S: Sink> Stage<'_, D, S> {
-    // The power has gone: that is told, and it comes back.
+    /// The power has gone: that is told, and it comes back.
     pub fn come_back(&mut self)
         requires { (D.disk self.old.disk.now).on ≡ false }
         ensures told { S.said self.old.out.now Cut self.new.out.now }

@@ -8,7 +8,7 @@ use std::marker::Model;
 // Every command is shorter.
 const LONGEST: usize = 64;
 
-// Clauses see the bytes so far, and None where the line is too long.
+/// Clauses see the bytes so far, and None where the line is too long.
 #[derive(Drop)]
 pub struct LineBuffer {
     text: Option<ArrayVec<u8, LONGEST>>,
@@ -47,7 +47,7 @@ impl LineBuffer {
         }
     }
 
-    // None where the line is too long.
+    /// None where the line is too long.
     pub fn text(&self) -> Option<&[u8]>
         ensures { MatchOption result (self.now ≡ None) (λ t. self.now ≡ Some t.now) }
     {

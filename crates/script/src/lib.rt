@@ -10,7 +10,7 @@ use clerk::Clerk;
 use deals::{Answer, Op};
 pub use line::ParseError;
 
-// What one line of a script asks for. It derives no more than the statements' `Op` does.
+/// What one line of a script asks for. It derives no more than the statements' `Op` does.
 #[derive(Clone, Copy)]
 pub enum Command {
     // a clerk asks
@@ -23,7 +23,7 @@ pub enum Command {
     Book,
 }
 
-// One line of what a script prints. It derives no more than the statements' `Answer` does.
+/// One line of what a script prints. It derives no more than the statements' `Answer` does.
 #[derive(Clone, Copy)]
 pub enum Output {
     // a clerk is told

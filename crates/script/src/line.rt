@@ -12,10 +12,10 @@ use std::num::{ParseIntError, TryFromIntError};
 use std::str::Utf8Error;
 use thiserror::Error;
 
-// A life has fewer turns than this.
+/// A life has fewer turns than this.
 pub const TURNS: u64 = 16_777_216;
 
-// Why a text isn't what it is read as.
+/// Why a text isn't what it is read as.
 #[derive(Debug, Drop, Error)]
 pub enum ParseError {
     #[error("not a verb")]
@@ -49,8 +49,8 @@ pub enum Verb {
     Book,
 }
 
-// The numbers after a verb. How many they are belongs to the type and isn't a case of none: each verb takes exactly so
-// many.
+/// The numbers after a verb. How many they are belongs to the type and isn't a case of none: each verb takes exactly so
+/// many.
 #[derive(Clone, Copy, Debug, PartialEq, Eq)]
 pub enum Numbers {
     Zero,
@@ -58,7 +58,7 @@ pub enum Numbers {
     Two(u64, u64),
 }
 
-// A line without its clerk.
+/// A line without its clerk.
 #[derive(Clone, Copy, Debug, PartialEq, Eq)]
 pub struct Order {
     pub verb: Verb,

@@ -118,7 +118,7 @@ fn build<S: PageStore>(s: &mut S, l: u64, entry: Entry, more: Option<Entry>) -> 
 }
 
 impl TreeRoot {
-    // Puts the pair (k, x) into the tree; whether the key is new.
+    /// Puts the pair (k, x) into the tree; whether the key is new.
     pub fn put<S: PageStore>(&mut self, s: &mut S, k: u64, x: u64) -> Result<bool, Gone>
         requires asks { (Sound (S.state s.old) self.old.height self.old.page) × ((Once (S.state s.old)) × ((self.old.height ≤ 6) × ((3 * self.old.height + 1 ≤ (S.state s.old).left) × (self.old.height + 1 ≤ (S.state s.old).room)))) }
         requires budget { 2 * self.old.height + 1 ≤ (S.state s.old).spare }

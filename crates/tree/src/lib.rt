@@ -10,7 +10,7 @@ mod search;
 pub use page_store::PageStore;
 pub use pages::Gone;
 
-// Where a tree stands: its root's page and its height.
+/// Where a tree stands: its root's page and its height.
 #[derive(Clone, Copy, Debug, PartialEq, Eq)]
 #[repr(C)]
 pub struct TreeRoot {

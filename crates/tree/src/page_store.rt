@@ -9,7 +9,7 @@ ghost use Rattle.tree.specs.State.{PageState, Still, Given, Wrote, Freed, Whole,
 use node::{Node, Way};
 use pages::{Gone, PAGE_WORDS};
 
-// Pages by their numbers. A store fails only by the power going.
+/// Pages by their numbers. A store fails only by the power going.
 pub trait PageStore {
     ghost state: { Self → PageState };
     // onto a ok b: b may have come from a, where ok says whether the power is still there. The tree passes it through.
@@ -50,7 +50,7 @@ pub trait PageStore {
 // So does what is asked of a page, that it is taken and holds a node: a page here is a number, and says nothing without its store.
 // The bounds on what may still be asked and changed differ from function to function.
 
-// The node of page p.
+/// The node of page p.
 pub fn read_node<S: PageStore>(s: &mut S, p: u64) -> Result<Node, Gone>
     requires asks { (0 < (S.state s.old).left) × ((1 ≤ (S.state s.old).taken p) × (IsNode ((S.state s.old).page p))) }
     requires whole { Whole S.onto s.old }
@@ -62,7 +62,7 @@ pub fn read_node<S: PageStore>(s: &mut S, p: u64) -> Result<Node, Gone>
     Ok(Node::from_words(words))
 }
 
-// What look tells of the node of page p, which is not held when it returns.
+/// What look tells of the node of page p, which is not held when it returns.
 pub fn look_at<S: PageStore, T, F: FnOnce(&Node) -> T>(
     s: &mut S,
     p: u64,
@@ -78,7 +78,7 @@ pub fn look_at<S: PageStore, T, F: FnOnce(&Node) -> T>(
     Ok(look(&node))
 }
 
-// The way from the inner node p to the child that has k.
+/// The way from the inner node p to the child that has k.
 pub fn find_way<S: PageStore>(s: &mut S, p: u64, k: u64) -> Result<Way, Gone>
     requires asks { (0 < (S.state s.old).left) × ((1 ≤ (S.state s.old).taken p) × ((IsNode ((S.state s.old).page p)) × (Reaches (pairs_of ((S.state s.old).page p)) k))) }
     requires whole { Whole S.onto s.old }

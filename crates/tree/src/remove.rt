@@ -129,7 +129,7 @@ impl TreeRoot {
         Ok(())
     }
 
-    // Takes the pair at k out of the tree; whether it was there.
+    /// Takes the pair at k out of the tree; whether it was there.
     pub fn drop<S: PageStore>(&mut self, s: &mut S, k: u64) -> Result<bool, Gone>
         requires asks { (Sound (S.state s.old) self.old.height self.old.page) × ((Once (S.state s.old)) × (4 * self.old.height ≤ (S.state s.old).left)) }
         requires budget { 2 * self.old.height ≤ (S.state s.old).spare }

@@ -61,7 +61,7 @@ fn next_at<S: PageStore>(s: &mut S, p: u64, l: u64, k: u64) -> Result<Option<Ent
 
 // Two questions that read alike: they differ in what they find and in how many askings that takes.
 impl TreeRoot {
-    // The word at k.
+    /// The word at k.
     pub fn get<S: PageStore>(self, s: &mut S, k: u64) -> Result<Option<u64>, Gone>
         requires asks { (Sound (S.state s.old) self.height self.page) × (self.height ≤ (S.state s.old).left) }
         requires whole { Whole S.onto s.old }
@@ -74,7 +74,7 @@ impl TreeRoot {
         get_at(s, self.page, self.height - 1, k)
     }
 
-    // The first pair with a key above k.
+    /// The first pair with a key above k.
     pub fn next<S: PageStore>(self, s: &mut S, k: u64) -> Result<Option<Entry>, Gone>
         requires asks { (Sound (S.state s.old) self.height self.page) × ((2 * self.height ≤ (S.state s.old).left + 1) × (self.height ≤ 6)) }
         requires whole { Whole S.onto s.old }

@@ -14,7 +14,7 @@ use pagemem::{MemTree, TreeRoot, set_up};
 // What tree_put answers where too few pages are free. C has no Option: a number tells it.
 const REFUSED: u64 = 2;
 
-// An empty tree in the lent memory.
+/// An empty tree in the lent memory.
 #[unsafe(no_mangle)]
 pub extern "C" fn tree_set_up(marks: &mut [u64], words: &mut [u64], root: &mut TreeRoot)
     requires { (0 < length marks.old) × ((length marks.old ≤ 4294967297) × (page_words * (length marks.old - 1) ≤ length words.old)) }
@@ -23,7 +23,7 @@ pub extern "C" fn tree_set_up(marks: &mut [u64], words: &mut [u64], root: &mut T
     *root = set_up(marks, words);
 }
 
-// The word at k, or the largest word if there is none.
+/// The word at k, or the largest word if there is none.
 #[unsafe(no_mangle)]
 pub extern "C" fn tree_get(marks: &mut [u64], words: &mut [u64], root: &TreeRoot, k: u64) -> u64
     requires { Good marks.old words.old root.now }
@@ -34,7 +34,7 @@ pub extern "C" fn tree_get(marks: &mut [u64], words: &mut [u64], root: &TreeRoot
     tree.get(k).unwrap_or(u64::MAX)
 }
 
-// Puts the pair (k, x): 1 if the key is new, 0 if it is not, 2 if too few pages are free.
+/// Puts the pair (k, x): 1 if the key is new, 0 if it is not, 2 if too few pages are free.
 #[unsafe(no_mangle)]
 pub extern "C" fn tree_put(
     marks: &mut [u64],
@@ -52,7 +52,7 @@ pub extern "C" fn tree_put(
     new.map_or(REFUSED, u64::from)
 }
 
-// Drops the pair at k: 1 if it was there, else 0.
+/// Drops the pair at k: 1 if it was there, else 0.
 #[unsafe(no_mangle)]
 pub extern "C" fn tree_drop(
     marks: &mut [u64],

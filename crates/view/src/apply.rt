@@ -31,8 +31,8 @@ fn work_in<D: Index>(index: &mut D, room: &mut [u64], line: Line) -> Result<(), 
     }
 }
 
-// The front record goes into the tree, and what is kept above dropped keys is put right in the queue and in all deals.
-// Gives the queue without that record: with it the tree makes the same pairs as before.
+/// The front record goes into the tree, and what is kept above dropped keys is put right in the queue and in all deals.
+/// Gives the queue without that record: with it the tree makes the same pairs as before.
 pub fn apply_front<D: Index>(
     index: &mut D,
     room: &mut [u64],

@@ -18,7 +18,7 @@ fn is_write(line: Line) -> bool
     matches!(line, Line::Wrote(..) | Line::Cleared(..))
 }
 
-// Gives the longer queue, which then does to any tree what the deal did.
+/// Gives the longer queue, which then does to any tree what the deal did.
 pub fn take_in(room: &mut [u64], view: View) -> Ring
     requires stands { Stands room.old view }
     requires fits { view.queue.count + length (writing (own_of room.old view)) ≤ 32768 }

@@ -8,9 +8,9 @@ ghost use Rattle.view.specs.Index.{Whole, Passes, Asked, MayChange};
 
 use pages::Gone;
 
-// The room comes beside the index and is not a part of it: between two calls others read and write the lines in it.
-// That the tables stay is no field of `Passes`: `apply_front` gives `Passes` too, and changes them. And a slice's type has
-// no length, so each method that is given no view or queue has to ask for the room's.
+/// The room comes beside the index and is not a part of it: between two calls others read and write the lines in it.
+/// That the tables stay is no field of `Passes`: `apply_front` gives `Passes` too, and changes them. And a slice's type has
+/// no length, so each method that is given no view or queue has to ask for the room's.
 pub trait Index {
     // The pairs that it holds.
     ghost pairs: { Self → List ℕ → List (ℕ × ℕ) };

@@ -10,14 +10,14 @@ use lines::own::change_lines;
 use lines::queue::change_records;
 use lines::ring::Ring;
 
-// The tree has gained a key; or lost one, with the first that is above it.
+/// The tree has gained a key; or lost one, with the first that is above it.
 #[derive(Clone, Copy, PartialEq, Debug)]
 pub enum Change {
     Gained(u64),
     Lost(u64, Option<u64>),
 }
 
-// What the tree gains or loses by a line, if anything.
+/// What the tree gains or loses by a line, if anything.
 pub fn change_by(line: Line) -> Option<Change>
     ensures { result ≡ change_by line }
 {
@@ -47,7 +47,7 @@ fn kept_line(change: Option<Change>, line: Line) -> Line
     }
 }
 
-// The queue's records. As for a deal, but for what else of the room stays, so one function would have to say both.
+/// The queue's records. As for a deal, but for what else of the room stays, so one function would have to say both.
 pub fn keep_queue(room: &mut [u64], queue: Ring, change: Option<Change>)
     requires { QueueIn room.old queue }
     ensures lines { queue_lines room.new queue ≡ map (kept_by change) (queue_lines room.old queue) }
@@ -65,7 +65,7 @@ fn keep_deal(room: &mut [u64], deal: usize, count: usize, change: Option<Change>
     change_lines(room, deal, count, |line| kept_line(change, line));
 }
 
-// The lines of all deals; `counts` says how many each has.
+/// The lines of all deals; `counts` says how many each has.
 pub fn keep_deals(room: &mut [u64], counts: &[usize], change: Option<Change>)
     requires { (Counts counts.now) × (length room.old ≡ 262144) }
     ensures lines { (c : ℕ) → c < 32 → deal_lines room.new c (slice_index counts.now c) ≡ map (kept_by change) (deal_lines room.old c (slice_index counts.now c)) }

@@ -17,7 +17,7 @@ use crate::sight::Sight;
 use lines::line::Line;
 use pages::Gone;
 
-// The word at k as the deal sees it. One pass over its lines and the queue, and at most one `get`.
+/// The word at k as the deal sees it. One pass over its lines and the queue, and at most one `get`.
 pub fn look<D: Index>(
     index: &mut D,
     room: &mut [u64],
@@ -47,7 +47,7 @@ fn key_of(pair: Option<(u64, u64)>) -> Option<u64>
     pair.map(|(p, _)| p)
 }
 
-// The first key above k that the deal sees. Exactly one `next`, and no word of the disk for the keys that the room has dropped.
+/// The first key above k that the deal sees. Exactly one `next`, and no word of the disk for the keys that the room has dropped.
 pub fn next_key<D: Index>(
     index: &mut D,
     room: &mut [u64],
@@ -68,7 +68,7 @@ pub fn next_key<D: Index>(
     Ok(Sight::new(room, view).onward(k, first))
 }
 
-// The first pair above k that the deal sees. One `next`, and at most one `get` for its word.
+/// The first pair above k that the deal sees. One `next`, and at most one `get` for its word.
 pub fn next_pair<D: Index>(
     index: &mut D,
     room: &mut [u64],
@@ -92,7 +92,7 @@ pub fn next_pair<D: Index>(
     Ok(word.map(|x| (p, x)))
 }
 
-// A drop's line, as the tree is now. Exactly one `next`.
+/// A drop's line, as the tree is now. Exactly one `next`.
 pub fn drop_line<D: Index>(index: &mut D, room: &mut [u64], k: u64) -> Result<Line, Gone>
     requires room { length room.old ≡ 262144 }
     requires asks { (D.budget index.old).next ≤ (D.budget index.old).left }

@@ -5,7 +5,7 @@ ghost use Rattle.view.specs.Sight.{seen_line, seen_in, word_of};
 use lines::line::Line;
 use lines::ring::{Lines, Ring};
 
-// Whose eyes: a deal, how many lines it has, and the queue.
+/// Whose eyes: a deal, how many lines it has, and the queue.
 #[derive(Clone, Copy, PartialEq, Eq, Debug)]
 pub struct View {
     pub deal: usize,
@@ -13,7 +13,7 @@ pub struct View {
     pub queue: Ring,
 }
 
-// Put with this word; or dropped, with the tree's first key above.
+/// Put with this word; or dropped, with the tree's first key above.
 #[derive(Clone, Copy, PartialEq, Eq, Debug)]
 pub enum Seen {
     There(u64),
@@ -21,7 +21,7 @@ pub enum Seen {
 }
 
 impl Seen {
-    // The word, where there is one.
+    /// The word, where there is one.
     pub fn word(self) -> Option<u64>
         ensures { result ≡ word_of self }
     {
@@ -42,7 +42,7 @@ fn seen_line(line: Line, key: u64) -> Option<Seen>
     }
 }
 
-// What the last line says that writes the key. One pass, from the end.
+/// What the last line says that writes the key. One pass, from the end.
 pub fn last_of(lines: Lines, key: u64) -> Option<Seen>
     ensures { result ≡ seen_in key lines.entry None }
 {

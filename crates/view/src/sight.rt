@@ -11,7 +11,7 @@ use lines::queue::records_of;
 use lines::ring::Lines;
 use std::marker::Model;
 
-// Clauses see the queue's lines and the deal's own.
+/// Clauses see the queue's lines and the deal's own.
 #[derive(Drop)]
 pub struct Sight<'a> {
     room: &'a [u64],
@@ -35,7 +35,7 @@ fn is_under(key: u64, best: Option<u64>) -> bool
 }
 
 impl<'a> Sight<'a> {
-    // Copies nothing: each question reads the lines in the room.
+    /// Copies nothing: each question reads the lines in the room.
     pub fn new(room: &'a [u64], view: View) -> Sight<'a>
         requires { Stands room.now view }
         ensures { result ≡ said_in room.now view }
@@ -55,7 +55,7 @@ impl<'a> Sight<'a> {
         records_of(self.room, self.view.queue)
     }
 
-    // The deal's own lines have the say; where they are silent, the queue.
+    /// The deal's own lines have the say; where they are silent, the queue.
     #[tactic(auto, using(crate::proofs::Looks::says_silent, crate::proofs::Looks::says_spoken))]
     pub fn says(&self, key: u64) -> Option<Seen>
         ensures { result ≡ says_of self.now key }
@@ -108,7 +108,7 @@ impl<'a> Sight<'a> {
         lines.fold(best, |least, line| self.least_of(line, k, least))
     }
 
-    // The first key above k that the deal sees; `first` is the tree's.
+    /// The first key above k that the deal sees; `first` is the tree's.
     pub fn onward(&self, k: u64, first: Option<u64>) -> Option<u64>
         requires { Rises (says_of self.now) }
         ensures { Onward self.now.queue self.now.own k first result }

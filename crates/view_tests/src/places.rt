@@ -4,14 +4,14 @@ ghost use Rattle.node.specs.Pairs.{find, above};
 
 // The two that follow are one call of the library each, with another test.
 
-// The first pair with this key.
+/// The first pair with this key.
 pub fn place_of(items: &[(u64, u64)], k: u64) -> Option<usize>
     ensures { result ≡ position (λ e. e.0 == k) items.now }
 {
     items.iter().position(|pair| pair.0 == k)
 }
 
-// The first pair with a key that is not below this one.
+/// The first pair with a key that is not below this one.
 pub fn place_from(items: &[(u64, u64)], k: u64) -> Option<usize>
     ensures { result ≡ position (λ e. nat_le k e.0) items.now }
 {

@@ -21,8 +21,8 @@ use view::commit::take_in;
 use view::look::{drop_line, look, next_pair};
 use view::seen::View;
 
-// Clauses see the pairs that are found by the queue and the tree. Each step takes the play and gives it back: where the
-// power goes, the play is over.
+/// Clauses see the pairs that are found by the queue and the tree. Each step takes the play and gives it back: where the
+/// power goes, the play is over.
 #[derive(Drop)]
 pub struct Play {
     index: PairList,
@@ -58,7 +58,7 @@ fn say(room: &mut [u64], counts: &mut [usize], deal: usize, line: Line)
 }
 
 impl Play {
-    // Nothing is there yet.
+    /// Nothing is there yet.
     pub fn new(alloc: Global) -> Result<Play, AllocError>
         ensures { IfOk result (λ p. p ≡ []) }
     {
@@ -76,7 +76,7 @@ impl Play {
         })
     }
 
-    // A clerk's deal puts x at k. Others don't see it yet.
+    /// A clerk's deal puts x at k. Others don't see it yet.
     pub fn put(mut self, clerk: Clerk, k: u64, x: u64) -> Play
         ensures { result ≡ self }
     {
@@ -89,7 +89,7 @@ impl Play {
         self
     }
 
-    // It drops k. Others don't see it yet.
+    /// It drops k. Others don't see it yet.
     pub fn drop_key(mut self, clerk: Clerk, k: u64) -> Result<Play, Gone>
         ensures { IfOk result (λ p. p ≡ self) }
     {
@@ -103,7 +103,7 @@ impl Play {
         Ok(self)
     }
 
-    // The deal is made: all that it wrote goes to the queue, if there is room; it has no lines then.
+    /// The deal is made: all that it wrote goes to the queue, if there is room; it has no lines then.
     pub fn commit(mut self, clerk: Clerk) -> Play {
         let deal = clerk.index();
         let count = self.counts[deal];
@@ -135,7 +135,7 @@ impl Play {
         Ok(self)
     }
 
-    // All records go into the tree.
+    /// All records go into the tree.
     pub fn work_all(self) -> Result<Play, Gone>
         ensures { IfOk result (λ p. p ≡ self) }
     {
@@ -143,7 +143,7 @@ impl Play {
         (0..records).try_fold(self, |play, _| play.work())
     }
 
-    // Shows what the deal sees at k.
+    /// Shows what the deal sees at k.
     pub fn show_at(
         mut self,
         rt: &HostRuntime,
@@ -164,8 +164,8 @@ impl Play {
         Ok(self)
     }
 
-    // Shows what the deal sees above k. One function for both questions would have to repeat of a closure all that
-    // `look` and `next_pair` say.
+    /// Shows what the deal sees above k. One function for both questions would have to repeat of a closure all that
+    /// `look` and `next_pair` say.
     pub fn show_above(
         mut self,
         rt: &HostRuntime,
@@ -186,14 +186,14 @@ impl Play {
         Ok(self)
     }
 
-    // The deal puts the keys 1 to n, each with itself, and is made.
+    /// The deal puts the keys 1 to n, each with itself, and is made.
     pub fn put_row(self, clerk: Clerk, n: u64) -> Play {
         (1..=n)
             .fold(self, |play, k| play.put(clerk, k, k))
             .commit(clerk)
     }
 
-    // The deal drops the keys 1 to n.
+    /// The deal drops the keys 1 to n.
     pub fn drop_row(self, clerk: Clerk, n: u64) -> Result<Play, Gone> {
         (1..=n).try_fold(self, |play, k| play.drop_key(clerk, k))
     }

@@ -8,7 +8,7 @@ fn clerks() -> (Clerk, Clerk, Clerk) {
     (Clerk::new(0), Clerk::new(1), Clerk::new(2))
 }
 
-// Key 0 and the last key are keys as any other: in own lines, in the queue, in the tree.
+/// Key 0 and the last key are keys as any other: in own lines, in the queue, in the tree.
 pub fn ends(rt: &HostRuntime, play: Play) -> Result<Play, Stop> {
     let (first, second, _) = clerks();
     play.put(first, 0, 7)
@@ -23,7 +23,7 @@ pub fn ends(rt: &HostRuntime, play: Play) -> Result<Play, Stop> {
         .show_above(rt, "above the last key", second, u64::MAX)
 }
 
-// The last key and then key 0 are dropped, and taken out.
+/// The last key and then key 0 are dropped, and taken out.
 pub fn ends_go(rt: &HostRuntime, play: Play) -> Result<Play, Stop> {
     let (_, second, third) = clerks();
     play.drop_key(second, u64::MAX)?
@@ -36,7 +36,7 @@ pub fn ends_go(rt: &HostRuntime, play: Play) -> Result<Play, Stop> {
         .show_at(rt, "at 0, taken out", third, 0)
 }
 
-// One key, put and dropped by turns in the tree, the queue and own lines.
+/// One key, put and dropped by turns in the tree, the queue and own lines.
 pub fn turns(rt: &HostRuntime, play: Play) -> Result<Play, Stop> {
     let (first, second, third) = clerks();
     play.put(first, 5, 1)
@@ -54,7 +54,7 @@ pub fn turns(rt: &HostRuntime, play: Play) -> Result<Play, Stop> {
         .show_at(rt, "at 5 for another deal", third, 5)
 }
 
-// That deal is made; the key is as it left it, in the queue and in the tree.
+/// That deal is made; the key is as it left it, in the queue and in the tree.
 pub fn turns_made(rt: &HostRuntime, play: Play) -> Result<Play, Stop> {
     let (_, second, third) = clerks();
     play.commit(second)
@@ -63,7 +63,7 @@ pub fn turns_made(rt: &HostRuntime, play: Play) -> Result<Play, Stop> {
         .show_at(rt, "at 5, in the tree", third, 5)
 }
 
-// A thousand keys in a row are dropped; the next key lies behind them.
+/// A thousand keys in a row are dropped; the next key lies behind them.
 pub fn row(rt: &HostRuntime, play: Play) -> Result<Play, Stop> {
     let (first, second, third) = clerks();
     play.put_row(first, 1000)

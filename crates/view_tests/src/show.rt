@@ -28,7 +28,7 @@ impl From<io::Error> for Stop {
     }
 }
 
-// A key and the word at it, as they are shown.
+/// A key and the word at it, as they are shown.
 #[derive(Clone, Copy, PartialEq, Eq, Debug)]
 pub struct Entry {
     pub key: u64,
