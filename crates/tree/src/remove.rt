@@ -69,8 +69,8 @@ fn leaf_drop<S: PageStore>(s: &mut S, p: u64, k: u64) -> Result<Lost, Gone>
         Ok(i) => {
             leaf.remove_at(i);
             s.write(p, leaf.words())?;
-            let thin = leaf.len() < LEAST;
-            Ok(Lost::Taken { thin })
+            let low = leaf.len() < LEAST;
+            Ok(Lost::Taken { thin: low })
         }
         Err(_) => Ok(Lost::Absent),
     }
