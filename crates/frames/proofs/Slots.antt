@@ -5,7 +5,8 @@ use Rattle.std.proofs.lemmas.Bool.{cases_lt, cases_eq, eq-eqb, ne_eqb}
 use Rattle.std.specs.Option.{option_map}
 use Rattle.frames.specs.Layout.{Cache, Sized, cache_of, frame_in, placed}
 use Rattle.frames.specs.Frames.{place_in, slot_among}
-use Rattle.frames.proofs.Words.{part_below, part_above, part_in, cut_long}
+use Rattle.pages.proofs.Mid.{part_below, part_above, part_in}
+use Rattle.frames.proofs.Words.{cut_long}
 
 pub cases_slot : (o : Option ℕ) → (o ≡ None) ⊎ ((i : ℕ) × (o ≡ Some i))
 cases_slot None = inl refl

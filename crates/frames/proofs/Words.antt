@@ -3,6 +3,7 @@ use Rattle.std.proofs.Common.{◌≡◌, ℕ, ◌+◌, ◌-◌, ◌*◌, ◌<◌
 use borrow.Rule.Slice.PartMut.{put_mid}
 use lib.Seq.{take-set-lt}
 use Rattle.std.proofs.lemmas.List.{take-set-le, drop-set-lt, drop-set-add, get_or-set_same, get_or-set_other, get_or-take, get_or-drop, take-replicate, drop-replicate, get_or-replicate, length-replicate, places, same_lists}
+use Rattle.pages.proofs.Mid.{part_below, part_above, part_in}
 use Rattle.frames.specs.declared.layout.Column.{Column}
 use Rattle.frames.specs.declared.layout.Column.TheVariants.{Pages, Marks, Pins}
 use Rattle.frames.specs.Columns.{start_of, column_in, with_column}
@@ -130,17 +131,8 @@ module _ (part : List ℕ) (v : ℕ) (sized : Sized part) where
       (aside part 61865 v 61864 (omega arith))
       (get_or-set_same part 61865 v 0 (omega arith))
 
--- ys written over the k words from a, seen from a stretch that lies elsewhere, in it, or around it
+-- ys written over the k words from a, seen from around it, and a word seen
 module _ (a k : ℕ) (xs ys : List ℕ) (fits : a + k ≤ length xs) (long : length ys ≡ k) where
-  pub part_below : (s m : ℕ) → s + m ≤ a → take m (drop s (put_mid a k xs ys)) ≡ take m (drop s xs)
-  part_below s m h = same_lists _ _ (search (rules, places)) (λ i d l. grind (arith, places))
-
-  pub part_above : (s m : ℕ) → a + k ≤ s → take m (drop s (put_mid a k xs ys)) ≡ take m (drop s xs)
-  part_above s m h = same_lists _ _ (search (rules, places)) (λ i d l. grind (arith, places))
-
-  pub part_in : (s m : ℕ) → a ≤ s → s + m ≤ a + k → take m (drop s (put_mid a k xs ys)) ≡ take m (drop (s - a) ys)
-  part_in s m g h = same_lists _ _ (search (rules, places)) (λ i d l. grind (arith, places))
-
   part_around : (m : ℕ) → a + k ≤ m → take m (put_mid a k xs ys) ≡ put_mid a k (take m xs) ys
   part_around m h = same_lists _ _ (search (rules, places)) (λ i d l. grind (arith, places))
 

@@ -2,27 +2,12 @@
 use Rattle.std.proofs.Common.{◌≡◌, ℕ, ◌+◌, ◌*◌, ◌<◌, ◌≤◌, List, length, take, drop, sym, ap, ap₂, ◌∙◌, inl, inr, arith, rules}
 use borrow.Rule.Slice.PartMut.{put_mid}
 use Rattle.std.proofs.lemmas.List.{places, same_lists, take_all, length-take, length-drop}
+use Rattle.std.proofs.lemmas.Slice.{drop-put_mid}
 use Rattle.std.proofs.lemmas.Bool.{cases_lt}
+use Rattle.pages.proofs.Mid.{length_put_mid, part_same, part_below, part_above}
 use Rattle.lines.specs.declared.ring.Ring.{Ring}
 use Rattle.lines.specs.Rings.{lines_of}
 use Rattle.lines.specs.Tables.{deal_ring, deal_lines, queue_lines, tables, OnlyDeal, OnlyQueue}
-
--- a write of ys to xs[a .. a + k], seen from elsewhere
-module _ (a k : ℕ) (xs ys : List ℕ) (fits : a + k ≤ length xs) (same : length ys ≡ k) where
-  pub length_put_mid : length (put_mid a k xs ys) ≡ length xs
-  length_put_mid = search (rules, places)
-
-  pub part_same : (m : ℕ) → m ≤ k → take m (drop a (put_mid a k xs ys)) ≡ take m ys
-  part_same m h = same_lists _ _ (search (rules, places)) (λ i d l. grind (arith, places))
-
-  pub part_below : (s m : ℕ) → s + m ≤ a → take m (drop s (put_mid a k xs ys)) ≡ take m (drop s xs)
-  part_below s m h = same_lists _ _ (search (rules, places)) (λ i d l. grind (arith, places))
-
-  pub part_above : (s m : ℕ) → a + k ≤ s → take m (drop s (put_mid a k xs ys)) ≡ take m (drop s xs)
-  part_above s m h = same_lists _ _ (search (rules, places)) (λ i d l. grind (arith, places))
-
-  pub rest_above : (s : ℕ) → a + k ≤ s → drop s (put_mid a k xs ys) ≡ drop s xs
-  rest_above s h = same_lists _ _ (search (rules, places)) (λ i d l. grind (arith, places))
 
 -- a part below s, in what is the same below s
 pub part_of_take : (xs ys : List ℕ) (s a m : ℕ) → length ys ≡ length xs → a + m ≤ s → take s ys ≡ take s xs → take m (drop a ys) ≡ take m (drop a xs)
@@ -57,7 +42,7 @@ module _ (w : List ℕ) (c k : ℕ) (part : k ≡ 3072) where
             | inr l ↦ let g : c < d = after c d l ne in part_above (3072 * c) k w v (omega arith) (omega arith) (3072 * d) 3072 (omega arith)
           ]);
           queue = λ r. ap (λ x. lines_of x r) (part_above (3072 * c) k w v (omega arith) (omega arith) 98304 98304 (omega arith));
-          behind = rest_above (3072 * c) k w v (omega arith) (omega arith) 196608 (omega arith);
+          behind = drop-put_mid (3072 * c) k w v 196608 (omega arith) (omega arith) (omega arith);
         }
       where
         after : (c d : ℕ) → c ≤ d → (d ≡ c → ⊥) → c < d
@@ -81,7 +66,7 @@ module _ (w v : List ℕ) (size : length w ≡ 262144) (same : length v ≡ leng
       let long = queue_length in
       record {
         deals = λ d n h. ap (λ x. lines_of x (deal_ring n)) (part_below 98304 98304 w v (omega arith) long (3072 * d) 3072 (omega arith));
-        behind = rest_above 98304 98304 w v (omega arith) long 196608 (omega arith);
+        behind = drop-put_mid 98304 98304 w v 196608 (omega arith) (omega arith) long;
       }
 
 -- rooms with the same tables have the same lines

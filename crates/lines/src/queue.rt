@@ -1,6 +1,6 @@
 // The queue of committed writes, in the room. As in `own`, each function is one of the ring's, over a part of the room;
 // the two differ in that part, and in what they say of the rest of the room.
-ghost use Rattle.std.specs.Prelude.{◌≡◌, ◌+◌, ◌<◌, [], ◌∷◌, ◌++◌};
+ghost use Rattle.std.specs.Prelude.{◌≡◌, ◌+◌, ◌<◌, [], ◌∷◌, ◌++◌, slice_set};
 ghost use Rattle.lines.specs.Changes.{ChangesTo};
 ghost use Rattle.lines.specs.Tables.{queue_lines, QueueIn, OnlyQueue};
 
@@ -24,6 +24,16 @@ pub fn add_record(room: &mut [u64], queue: Ring, line: Line) -> Ring
     ensures only { OnlyQueue room.old room.new }
 {
     queue.push(&mut room[QUEUE_AT..TABLES_END], line)
+}
+
+/// Writes the record i of the queue, and no other.
+pub fn set_record(room: &mut [u64], queue: Ring, i: usize, line: Line)
+    requires { (QueueIn room.old queue) × (i < queue.count) }
+    ensures lines { queue_lines room.new queue ≡ slice_set (queue_lines room.old queue) i line }
+    ensures queue { QueueIn room.new queue }
+    ensures only { OnlyQueue room.old room.new }
+{
+    queue.set(&mut room[QUEUE_AT..TABLES_END], i, line);
 }
 
 /// Each record becomes what `change` makes of it, from the first on.

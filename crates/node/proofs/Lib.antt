@@ -1,4 +1,3 @@
-pub mod Mid
 pub mod Rows
 pub mod Words
 pub mod Pairs

@@ -4,7 +4,7 @@ use borrow.Rule.Slice.PartMut.{put_mid}
 use Rattle.std.specs.List.{zip, insert, remove}
 use Rattle.std.proofs.lemmas.List.{take-take, length-take, length-drop, get_or-set_same, get_or-set_other}
 use Rattle.node.specs.Node.{keys_of, words_of}
-use Rattle.node.proofs.Mid.{length_put_mid, get_d_below, part_same, part_below, part_above, part_set}
+use Rattle.pages.proofs.Mid.{length_put_mid, get_d_below, part_same, part_below, part_above, part_set}
 
 -- a page whose two rows and then its count have been written
 abbrev pub after : List ℕ → List ℕ → List ℕ → ℕ → List ℕ

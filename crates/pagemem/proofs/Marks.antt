@@ -3,7 +3,7 @@ use Rattle.std.proofs.Common.{◌≡◌, ℕ, zero, suc, ◌+◌, ◌-◌, ◌*�
 use borrow.Rule.Slice.PartMut.{put_mid}
 use Rattle.std.proofs.lemmas.List.{get_or-set_same, get_or-set_other, length-set, length-drop, get_or-drop, drop-set-add, drop-set-lt, take_all}
 use Rattle.std.proofs.lemmas.Bool.{eq-eqb, ne_eqb, cases_eq, cases_lt, cases_order}
-use Rattle.node.proofs.Mid.{length_put_mid, part_same, part_below, part_above}
+use Rattle.pages.proofs.Mid.{length_put_mid, part_same, part_below, part_above}
 use Rattle.std.specs.Prelude.{EachIndex, IsSome, IsOk, IfOk, MatchOption}
 use Rattle.tree.specs.Grow.{Grown}
 use Rattle.tree.specs.Shrink.{Dropped}

@@ -11,4 +11,6 @@ pub mod Falls
 pub mod Amends
 pub mod Settle
 pub mod Base
+pub mod Below
 pub mod Sizes
+pub mod Counts

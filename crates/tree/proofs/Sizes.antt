@@ -1,13 +1,14 @@
 -- How many nodes a tree has, by its pairs and by its height; its keys, its pages, and how full they are.
-use Rattle.std.proofs.Common.{◌≡◌, ℕ, zero, suc, ◌+◌, ◌-◌, ◌*◌, ◌≤◌, Bool, true, false, cond, eqb, ltb, List, [], ◌∷◌, length, sym, refl, ap, subst, inl, inr, arith}
+use Rattle.std.proofs.Common.{◌≡◌, ℕ, zero, suc, ◌+◌, ◌-◌, ◌*◌, ◌≤◌, List, [], ◌∷◌, length, sym, ap, subst, inl, inr, arith}
 use Rattle.std.proofs.lemmas.List.{length-append}
-use Rattle.std.proofs.lemmas.Bool.{lt-ltb, le-ltb, ne_eqb, cases_order, cases_lt}
+use Rattle.std.proofs.lemmas.Bool.{cases_lt}
 use Rattle.node.specs.Node.{pairs_of}
 use Rattle.tree.specs.State.{PageState}
 use Rattle.tree.specs.Tree.{joined, pairs_at, pages_at, occ, Kids, Well, Once, Sound, pairs_of_tree, pages_of_tree, root_min, keys_end, Within, UpTree, Occupied}
 use Rattle.node.proofs.Words.{pairs_length}
 use Rattle.tree.proofs.Kids.{occ-++, well_up}
-use Rattle.tree.proofs.Parts.{one_or, one_here}
+use Rattle.tree.proofs.Parts.{one_or}
+use Rattle.tree.proofs.Below.{few_from}
 
 kids_few : (W : ℕ → ℕ → ℕ → Type 0) (f : ℕ → List ℕ) (g : ℕ → List (ℕ × ℕ)) → ((c a b : ℕ) → W c a b → 84 * length (f c) + 1 ≤ length (g c)) → (lo hi : ℕ) (es : List (ℕ × ℕ)) → Kids W lo hi es → 84 * length (joined f es) + length es ≤ length (joined g es)
 kids_few W f g h lo hi [] k = omega arith
@@ -117,44 +118,10 @@ full_nodes d (suc (suc l)) root s q o ne = let v = d.page in elim (one_or q root
   | inr z ↦ absurd (ne z)
 ]
 
--- how many of ps are below n, by counting each number
-below : ℕ → List ℕ → ℕ
-below zero ps = 0
-below (suc n) ps = below n ps + occ n ps
-
-below_none : (n : ℕ) → below n [] ≡ 0
-unfolding below
-below_none zero = refl
-below_none (suc n) = omega (arith, below_none n)
-
-bit : (b c : Bool) → b ≡ c → ◌≡◌ {A = ℕ} (cond b 1 0) (cond c 1 0)
-bit b c e = ap (λ b. cond b 1 0) e
-
-below_more : (n p : ℕ) (ps : List ℕ) → below n (p ∷ ps) ≡ below n ps + cond (ltb p n) 1 0
-unfolding below
-below_more zero p ps = rw (le-ltb p 0 (omega arith)) (omega arith)
-below_more (suc n) p ps = elim (cases_order p n) [
-  | inl z ↦ omega (arith, below_more n p ps, one_here n p (sym z), bit (ltb p n) false (le-ltb p n (omega arith)), bit (ltb p (suc n)) true (lt-ltb p (suc n) (omega arith)))
-  | inr (inl z) ↦ omega (arith, below_more n p ps, bit (eqb n p) false (ne_eqb n p (λ y. omega (arith, y))), bit (ltb p n) true (lt-ltb p n z), bit (ltb p (suc n)) true (lt-ltb p (suc n) (omega arith)))
-  | inr (inr z) ↦ omega (arith, below_more n p ps, bit (eqb n p) false (ne_eqb n p (λ y. omega (arith, y))), bit (ltb p n) false (le-ltb p n (omega arith)), bit (ltb p (suc n)) false (le-ltb p (suc n) (omega arith)))
-]
-
-below_few : (n : ℕ) (ps : List ℕ) → ((q : ℕ) → occ q ps ≤ 1) → below n ps ≤ n
-unfolding below
-below_few zero ps h = omega arith
-below_few (suc n) ps h = omega (arith, below_few n ps h, h n)
-
-below_all : (n : ℕ) (ps : List ℕ) → ((q : ℕ) → n ≤ q → occ q ps ≡ 0) → below n ps ≡ length ps
-below_all n [] h = below_none n
-below_all n (p ∷ ps) h = elim (cases_lt p n) [
-  | inl z ↦ omega (arith, below_more n p ps, bit (ltb p n) true (lt-ltb p n z), below_all n ps (λ q y. omega (arith, h q y)))
-  | inr z ↦ absurd (omega (arith, h p z, one_here p p refl))
-]
-
 pub few_nodes : (d : PageState) (h root n : ℕ) → Sound d h root → Once d → Within d n → length (pages_of_tree d.page h root) ≤ n
 few_nodes d h root n s on w =
     let ps = pages_of_tree d.page h root in
-    omega (arith, below_few n ps (λ q. (own_pages d h root s on q).0), below_all n ps (λ q y. (own_pages d h root s on q).1 (w q y)))
+    omega (arith, few_from 0 n ps (λ q y. absurd (omega arith)) (λ q. (own_pages d h root s on q).0) (λ q y. (own_pages d h root s on q).1 (w q y)))
 
 pub low_trees : (d : PageState) (h root n : ℕ) → Sound d h root → Once d → Within d n → n ≤ 4294967296 → h ≤ 6
 low_trees d h root n s on w le = few_levels d h root s (omega (arith, few_nodes d h root n s on w))

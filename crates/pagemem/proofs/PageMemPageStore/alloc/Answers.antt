@@ -3,10 +3,6 @@ use Rattle.pagemem.specs.Memory.{kept}
 use Rattle.pagemem.proofs.Marks.{fits_of, taken}
 use Rattle.pagemem.proofs.PageMemPageStore.alloc.Goals as goal
 
-pub take_free-requires : goal.take_free-requires
-take_free-requires c =
-    let m = c.args.self.now in (c.requires.asks.1, (fits_of true m.marks.now m.words.now c.requires.whole.1).counted)
-
 pub returns : goal.returns
 returns c =
     let m = c.args.self.now in let e = c.take_free.ensures in

@@ -3,11 +3,6 @@ use Rattle.pagemem.specs.Memory.{kept}
 use Rattle.pagemem.proofs.Marks.{page_in_lem, fits_of, wrote, fits_wrote}
 use Rattle.pagemem.proofs.PageMemPageStore.write.Goals as goal
 
-pub put_page-requires : goal.put_page-requires
-put_page-requires c =
-    let m = c.args.self.now in
-    (page_in_lem m.marks.now m.words.now c.args.p c.requires.asks.0 (fits_of true m.marks.now m.words.now c.requires.whole.1), c.requires.asks.1.1)
-
 pub returns : goal.returns
 returns c =
     let m = c.args.self.now in let b = c.args.from.now in

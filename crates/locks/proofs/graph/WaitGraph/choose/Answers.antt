@@ -1,7 +1,7 @@
-use Rattle.std.proofs.Common.{◌≡◌, ℕ, ◌<◌, false, not, get_or, sym, ap, ◌∙◌, arith, below_more}
+use Rattle.std.proofs.Common.{◌<◌, not, get_or, sym, ap, ◌∙◌, arith}
 use Rattle.std.proofs.Math.Bool.{not-not}
 use Rattle.locks.specs.Sets.{some_of}
-use Rattle.locks.specs.Graphs.{waits_in, counts_by}
+use Rattle.locks.specs.Graphs.{waits_in}
 use Rattle.locks.specs.Chosen.{Chosen}
 use Rattle.locks.proofs.graph.WaitGraph.choose.Goals as goal
 
@@ -17,11 +17,6 @@ returns-then-counts c =
       counts = sym c.if-counts.ensures;
       before = c.loop-place.invariant;
     }
-
-pub loop-place-preserved : goal.loop-place-preserved
-loop-place-preserved c =
-    let w = waits_in c.args.self.now in
-    below_more (λ (k : ℕ). counts_by w (get_or c.args.order.now k 0) ≡ false) c.loop-place.place c.loop-place.invariant (ap (counts_by w) (sym c.new-who.ensures) ∙ sym c.if-counts.ensures)
 
 pub returns : goal.returns
 unfolding Chosen

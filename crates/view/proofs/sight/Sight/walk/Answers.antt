@@ -3,11 +3,6 @@ use Rattle.view.specs.Room.{says_of}
 use Rattle.view.proofs.Onward.{ahead_less, walk_more, walk_silent, walk_there, walk_ends}
 use Rattle.view.proofs.sight.Sight.walk.Goals as goal
 
-pub loop-t-smaller : goal.loop-t-smaller
-loop-t-smaller c =
-    let h : c.in-Some.p < 2 ^ 64 = omega arith in
-    ahead_less (says_of c.args.self.now) c.loop-t.t c.in-Some-Away.above c.in-Some.p c.requires c.in-Some.is h (cc)
-
 pub loop-t-preserved : goal.loop-t-preserved
 loop-t-preserved c =
     λ r w. c.loop-t.invariant r (walk_more (says_of c.args.self.now) c.loop-t.t c.in-Some-Away.above c.args.first r c.in-Some.p c.in-Some.is (cc) w)

@@ -1,10 +1,10 @@
 -- A part of a list that was written, seen from elsewhere.
-use Rattle.std.proofs.Common.{◌≡◌, ℕ, ◌+◌, ◌<◌, ◌≤◌, List, length, get_or, take, drop, set, ap, arith, rules}
+use Rattle.std.proofs.Common.{◌≡◌, ℕ, ◌+◌, ◌-◌, ◌<◌, ◌≤◌, List, length, get_or, take, drop, set, ap, arith, rules}
 use borrow.Rule.Slice.PartMut.{put_mid}
 use Rattle.std.proofs.lemmas.List.{places, same_lists, drop-set-lt}
 
--- a write of ys to xs[a .. a + k]
-module _ (a k : ℕ) (xs ys : List ℕ) (fits : a + k ≤ length xs) (same : length ys ≡ k) where
+-- ys written over the k words from a, seen from a stretch that lies elsewhere, or in it
+module _ (a k : ℕ) (xs ys : List ℕ) (fits : a + k ≤ length xs) (long : length ys ≡ k) where
   pub length_put_mid : length (put_mid a k xs ys) ≡ length xs
   length_put_mid = search (rules, places)
 
@@ -13,6 +13,9 @@ module _ (a k : ℕ) (xs ys : List ℕ) (fits : a + k ≤ length xs) (same : len
 
   pub part_same : (m : ℕ) → m ≤ k → take m (drop a (put_mid a k xs ys)) ≡ take m ys
   part_same m h = same_lists _ _ (search (rules, places)) (λ i d l. grind (arith, places))
+
+  pub part_in : (s m : ℕ) → a ≤ s → s + m ≤ a + k → take m (drop s (put_mid a k xs ys)) ≡ take m (drop (s - a) ys)
+  part_in s m g h = same_lists _ _ (search (rules, places)) (λ i d l. grind (arith, places))
 
   pub part_below : (s m : ℕ) → s + m ≤ a → take m (drop s (put_mid a k xs ys)) ≡ take m (drop s xs)
   part_below s m h = same_lists _ _ (search (rules, places)) (λ i d l. grind (arith, places))
