@@ -201,7 +201,7 @@ spilled m e part after s x y b room px wr t fr =
       room = rw (ap (λ (z : Head). length z.own) t) (omega arith);
       frames = fr;
       store = refl;
-      left = wr.left tt;
+      left = omega (arith, wr.left tt, ap (λ (z : Head). z.full) t);
     }
 
 pub spill_lost : (m e : Medium) (part : List ℕ) (fresh : Bool) (x : ℕ) → Ready m (next part) fresh → (next part).full < 263 →
@@ -216,7 +216,7 @@ pub ring_room : (n : ℕ) (h : Head) (s : ℕ → List ℕ) → Sound n h → le
 ring_room n h s ok l b = omega (arith, length_queue h s, ok.done)
 
 pub appended : (m e : Medium) (part mid after : List ℕ) (s z : Store) (r : Record) → Intact m part s → Roomy m part s e mid z → next after ≡ joined r (next mid) → frames_of after ≡ frames_of mid →
-    length after ≡ 62976 → Appended m part s r e after z
+    length after ≡ 62976 → Appended m part s (r ∷ []) e after z
 appended m e part mid after s z r i y j fr l =
     let rd : Ready e (next after) z.fresh = subst (λ h. Ready e h z.fresh) (sym j) (ready_joined e (next mid) z.fresh r y.ready y.room) in
     let same : (next after).region ≡ (next part).region = rd.follows.region ∙ ap (λ w. (head_of w).region) y.held.head ∙ sym i.ready.follows.region in
@@ -229,5 +229,36 @@ appended m e part mid after s z r i y j fr l =
       queue = ap (λ h. queue_by h e.shown) j ∙ queue_joined e.pages (next mid) e.shown r y.ready.follows.ok ∙ ap (λ q. q ++ r ∷ []) y.queue;
       frames = fr ∙ y.frames;
       store = y.store;
-      left = y.left;
+      left = omega (arith, y.left, ap (λ (h : Head). h.full) j);
     }
+
+pub held_on : {m e f : Medium} → Held m e → Held e f → Held m f
+held_on {m} {e} {f} a b = record {
+  pages = b.pages ∙ a.pages;
+  head = b.head ∙ a.head;
+  state = same_trans (subst (λ n. Same n (state_of f.shown) (state_of e.shown)) a.pages b.state) a.state;
+  plain = λ p l. b.plain p l ∙ a.plain p l;
+  images = λ region n lasted w l i. b.images region n lasted w l (a.images region n lasted w l i);
+}
+
+-- records after others
+pub appended_none : {m : Medium} {p : List ℕ} {s : Store} → Intact m p s → Appended m p s [] m p s
+appended_none i = record { intact = i; held = held_refl _; queue = sym (append-nil _); frames = refl; store = refl; left = omega arith }
+
+pub appended_on : {m e f : Medium} {p q r : List ℕ} {s z y : Store} {rs ts : List Record} → Appended m p s rs e q z → Appended e q z ts f r y → Appended m p s (rs ++ ts) f r y
+appended_on {y} {rs} {ts} a b = record {
+  intact = b.intact;
+  held = held_on a.held b.held;
+  queue = b.queue ∙ ap (λ l. l ++ ts) a.queue ∙ append_assoc _ rs ts;
+  frames = b.frames ∙ a.frames;
+  store = b.store ∙ ap (λ x. with_fresh x y.fresh) a.store;
+  left = omega (arith, a.left, b.left);
+}
+
+-- and where the power goes after them
+pub lost_after : {m e f : Medium} → Held m e → Lost e f → Lost m f
+lost_after {m} {e} {f} a l = record {
+  off = l.off;
+  pages = l.pages ∙ a.pages;
+  back = λ g b. let r = l.back g b in (r.0, same_trans (subst (λ n. Same n (state_of g.shown) (state_of e.shown)) a.pages r.1) a.state);
+}

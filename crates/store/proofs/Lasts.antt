@@ -86,6 +86,11 @@ moves_sync m a e w true k ok f wr y = record
     { pages = y.pages ∙ wr.pages; shown = y.shown ∙ wr.shown tt; all = λ q. subst (λ z. Stays e q (z q)) (sym y.shown) (y.all tt q); left = omega (arith, wr.left tt, y.left tt) }
 moves_sync m a e w false k ok f wr y = moves_cut m e w k ok f a true wr y.pages y.on (y.less tt)
 
+-- a head that names the same batch shows the same pages
+pub batch_next : (n : ℕ) (h g : Head) (s : ℕ → List ℕ) (p : ℕ) → Next n h g → page_by g s p ≡ page_by h s p
+batch_next n h g s p x = ap (λ t. over (length t) (λ k. get_or t k 0) (λ k. s (slot_in g.region k)) s p) x.targets
+    ∙ ap (λ r. over (length h.targets) (target h) (λ k. s (slot_in r k)) s p) x.region
+
 -- the next head has lasted: its batch stands where it belongs, as before
 module _ (m e : Medium) (w : List ℕ) (y : Ready m (head_of w) false) (v : Moved m w e) where
   at0 : e.shown 0 ≡ w
@@ -97,11 +102,6 @@ module _ (m e : Medium) (w : List ℕ) (y : Ready m (head_of w) false) (v : Move
   pub moved_state : Same m.pages (state_of e.shown) (state_by (head_of w) m.shown)
   moved_state = same_trans (by_head e.shown (ap head_of at0)) (agree m.pages (head_of w) e.shown m.shown (λ p r. there p (relies_near y.kept.safe.big y.follows.ok r).0))
 
-  -- a head that names the same batch shows the same pages
-  batch_same : (p : ℕ) → page_by (head_of w) m.shown p ≡ page_by (head_of (m.shown 0)) m.shown p
-  batch_same p = ap (λ t. over (length t) (λ k. get_or t k 0) (λ k. m.shown (slot_in (head_of w).region k)) m.shown p) y.follows.targets
-      ∙ ap (λ r. over (length (head_of (m.shown 0)).targets) (target (head_of (m.shown 0))) (λ k. m.shown (slot_in r k)) m.shown p) y.follows.region
-
   pub moved_ready : Ready e (head_of w) false
   moved_ready = record {
     kept = record {
@@ -111,7 +111,7 @@ module _ (m e : Medium) (w : List ℕ) (y : Ready m (head_of w) false) (v : Move
         first = v.all 0;
         firm = λ p _. v.all p;
       };
-      put = λ p l b. let b' : p < m.pages = subst (λ z. p < z) v.pages b in moved_state.page p l b' ∙ batch_same p ∙ y.kept.put p l b' ∙ sym (there p (omega arith));
+      put = λ p l b. let b' : p < m.pages = subst (λ z. p < z) v.pages b in moved_state.page p l b' ∙ batch_next m.pages _ _ m.shown p y.follows ∙ y.kept.put p l b' ∙ sym (there p (omega arith));
     };
     follows = subst (λ z. Next e.pages (head_of z) (head_of w)) (sym at0) (record {
       ok = subst (λ n. Sound n (head_of w)) (sym v.pages) y.follows.ok;

@@ -11,3 +11,5 @@ pub mod Takes
 pub mod Batches
 pub mod Comes
 pub mod Views
+mod Changing
+pub mod Queued

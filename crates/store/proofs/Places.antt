@@ -1,17 +1,11 @@
 -- The parts of the lent slice, and a write to one of them seen from the others.
 use Rattle.std.proofs.Common.{◌≡◌, ℕ, ◌+◌, ◌≤◌, List, length, ◌++◌, take, drop, ap, ◌∙◌, arith, length-append, length-drop, length-take, take_at, drop_at, rules}
 use borrow.Rule.Slice.PartMut.{put_mid}
-use Rattle.std.proofs.lemmas.List.{places, same_lists}
+use Rattle.std.proofs.lemmas.List.{places, same_lists, take_all, drop-append-le, take-append-le}
 use Rattle.std.proofs.lemmas.Slice.{between-put_mid, take-put_mid_below, drop-put_mid}
+use Rattle.pages.proofs.Mid.{length_put_mid, part_below}
 use Rattle.store.specs.Head.{Head, head_of}
 use Rattle.store.specs.Store.{frames_of, next_of, next, scratch_of}
-
--- a write of ys to xs[a .. a + k], seen from below
-pub part_below : (a k : ℕ) (xs ys : List ℕ) → a + k ≤ length xs → length ys ≡ k → (s m : ℕ) → s + m ≤ a → take m (drop s (put_mid a k xs ys)) ≡ take m (drop s xs)
-part_below a k xs ys fits same s m h = same_lists _ _ (search (rules, places)) (λ i d l. grind (arith, places))
-
-pub length_put_mid : (a k : ℕ) (xs ys : List ℕ) → a + k ≤ length xs → length ys ≡ k → length (put_mid a k xs ys) ≡ length xs
-length_put_mid a k xs ys fits same = search (rules, places)
 
 -- the parts put together again
 pub frames_parts : (a r : List ℕ) → length a ≡ 61952 → frames_of (a ++ r) ≡ a
@@ -22,6 +16,18 @@ next_parts a w s l k = ap (take 512) (drop_at a (w ++ s) 61952 l) ∙ take_at w 
 
 pub head_parts : (a w s : List ℕ) (h : Head) → length a ≡ 61952 → length w ≡ 512 → head_of w ≡ h → next (a ++ (w ++ s)) ≡ h
 head_parts a w s h l k e = ap head_of (next_parts a w s l k) ∙ e
+
+-- frames and next head before a page
+module _ (a b : List ℕ) (l : length a ≡ 62464) where
+  pub next_front : next_of (a ++ b) ≡ take 512 (drop 61952 a)
+  next_front = ap (take 512) (drop-append-le 61952 a b (omega arith)) ∙ take-append-le 512 (drop 61952 a) b (simp length-drop (omega arith))
+
+  pub frames_front : frames_of (a ++ b) ≡ take 61952 a
+  frames_front = take-append-le 61952 a b (omega arith)
+
+  pub scratch_back : length b ≡ 512 → scratch_of (a ++ b) ≡ b
+  unfolding scratch_of
+  scratch_back k = ap (take 512) (drop_at a b 62464 l) ∙ take_all 512 b (omega arith)
 
 -- other frames before what stood behind them
 module _ (part a r : List ℕ) (l : length part ≡ 62976) (k : length a ≡ 61952) (e : r ≡ drop 61952 part) where

@@ -74,12 +74,12 @@ intact_filled m part after s k p w i l n t ca cl idle low lw far near = record {
     shots j = record { few = j.few; there = λ x b. j.there x b ∙ sym (same x b); last = λ o x b y q. j.last o x b y q ∙ sym (same x b); plain = j.plain }
 
 pub looked_same : (m : Medium) (part : List ℕ) (s : Store) → Intact m part s → Looked m part s part
-looked_same m part s i = record { intact = i; head = refl; view = refl; count = refl }
+looked_same m part s i = record { intact = i; head = refl; view = refl; changes = refl; count = refl }
 
 -- from a frame
 pub got_frame : (m : Medium) (part : List ℕ) (s : Store) (x k : ℕ) (b : List ℕ) → Intact m part s → slot_of (cache part) x ≡ Some k → b ≡ frame_in (cache part).frames k → Got m part s x b m part
 got_frame m part s x k b i e w = record
-    { words = w ∙ sym (shown_frame (cache part) m.shown x k e); pages = refl; shown = refl; intact = i; head = refl; view = refl; count = refl; left = omega arith }
+    { words = w ∙ sym (shown_frame (cache part) m.shown x k e); pages = refl; shown = refl; intact = i; head = refl; view = refl; changes = refl; count = refl; left = omega arith }
 
 -- from the disk
 pub got_disk : (m e : Medium) (part after : List ℕ) (s : Store) (x : ℕ) (b : List ℕ) → slot_of (cache part) x ≡ None → Reads m x b true e → Looked e part s after → Got m part s x b e after
@@ -90,6 +90,7 @@ got_disk m e part after s x b n r l = record {
   intact = l.intact;
   head = l.head;
   view = l.view ∙ ap (λ f. shown_by (cache part) f) r.shown;
+  changes = l.changes;
   count = l.count;
   left = r.left;
 }
@@ -125,7 +126,7 @@ intact_root m part s r i = record { long = i.long; ready = i.ready; table = i.ta
 
 pub given_new : (m : Medium) (part : List ℕ) (s : Store) → Intact m part s → s.root.free ≡ 0 → Given m part s (393 + s.root.used) m part (with_used s (s.root.used + 1))
 given_new m part s i z = record
-    { pages = refl; shown = refl; intact = intact_root m part s _ i; head = refl; view = refl; count = refl; new = λ _. (refl, refl); old = λ no'. absurd (no' z); left = omega arith }
+    { pages = refl; shown = refl; intact = intact_root m part s _ i; head = refl; view = refl; changes = refl; count = refl; new = λ _. (refl, refl); old = λ no'. absurd (no' z); left = omega arith }
 
 pub given_old : (m e : Medium) (part after : List ℕ) (s : Store) (b : List ℕ) (f : ℕ) → (s.root.free ≡ 0 → ⊥) → Got m part s s.root.free b e after → f ≡ get_or b 0 0 → Given m part s s.root.free e after (with_free s f)
 given_old m e part after s b f nz y ef = record {
@@ -134,6 +135,7 @@ given_old m e part after s b f nz y ef = record {
   intact = intact_root e after s _ y.intact;
   head = y.head;
   view = y.view;
+  changes = y.changes;
   count = y.count;
   new = λ z. absurd (nz z);
   old = λ _. (refl, ap (with_free s) (ef ∙ ap (λ w. get_or w 0 0) y.words));

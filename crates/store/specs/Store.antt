@@ -1,10 +1,10 @@
 -- What stands between two calls, and what each call does to it.
-use Rattle.std.specs.Prelude.{◌≡◌, ℕ, ◌+◌, ◌-◌, ◌<◌, ◌≤◌, Bool, true, false, not, T, ◌⊎◌, List, [], ◌∷◌, ◌++◌, length, take, drop, ◌≢◌, slice_index}
+use Rattle.std.specs.Prelude.{◌≡◌, ℕ, ◌+◌, ◌-◌, ◌<◌, ◌≤◌, Bool, true, false, cond, not, T, ◌⊎◌, List, [], ◌∷◌, ◌++◌, length, take, drop, ◌≢◌, slice_index}
 use Rattle.store.specs.declared.head.Record.{Record}
 use Rattle.store.specs.declared.head.Root.{Root}
 use Rattle.store.specs.declared.Store.{Store}
 use Rattle.frames.specs.Layout.{Cache, cache_of}
-use Rattle.frames.specs.Frames.{Sound as Framed, Clean, page_in, pinned, batch_words, shown_by}
+use Rattle.frames.specs.Frames.{Sound as Framed, Clean, page_in, pinned, batch_words, changed, shown_by}
 use Rattle.store.specs.Medium.{Medium, Stays, at, over}
 use Rattle.store.specs.Head.{Head, head_of, Sound, slot_in}
 use Rattle.store.specs.State.{State, queue_by, state_by, state_of, Same, Firm, Kept, Cut}
@@ -82,23 +82,23 @@ pub record Roomy (m : Medium) (p : List ℕ) (s : Store) (e : Medium) (q : List 
   pub room : length (next q).own < 128
   pub frames : frames_of q ≡ frames_of p
   pub store : z ≡ with_fresh s z.fresh
-  pub left : m.left ≤ e.left + 1
+  pub left : m.left + (next p).full ≤ e.left + (next q).full
 
 abbrev pub Spills : Medium → List ℕ → Store → Bool → Medium → List ℕ → Store → Type 0
 Spills m p s true e q z = Roomy m p s e q z
 Spills m p s false e q z = Lost m e
 
--- the record r has joined the next head
-pub record Appended (m : Medium) (p : List ℕ) (s : Store) (r : Record) (e : Medium) (q : List ℕ) (z : Store) : Type 0 where
+-- the records rs have joined the next head; one asking for each page of the ring that they filled
+pub record Appended (m : Medium) (p : List ℕ) (s : Store) (rs : List Record) (e : Medium) (q : List ℕ) (z : Store) : Type 0 where
   pub intact : Intact e q z
   pub held : Held m e
-  pub queue : queue_by (next q) e.shown ≡ queue_by (next p) m.shown ++ r ∷ []
+  pub queue : queue_by (next q) e.shown ≡ queue_by (next p) m.shown ++ rs
   pub frames : frames_of q ≡ frames_of p
   pub store : z ≡ with_fresh s z.fresh
-  pub left : m.left ≤ e.left + 1
+  pub left : m.left + (next p).full ≤ e.left + (next q).full
 
 abbrev pub Appends : Medium → List ℕ → Store → Record → Bool → Medium → List ℕ → Store → Type 0
-Appends m p s r true e q z = Appended m p s r e q z
+Appends m p s r true e q z = Appended m p s (r ∷ []) e q z
 Appends m p s r false e q z = Lost m e
 
 -- the power went while the head g was written: what comes back means what it did, or what g means
@@ -197,6 +197,7 @@ pub record Looked (m : Medium) (p : List ℕ) (s : Store) (q : List ℕ) : Type 
   pub intact : Intact m q s
   pub head : next_of q ≡ next_of p
   pub view : shown_by (cache q) m.shown ≡ shown_by (cache p) m.shown
+  pub changes : changed (cache q) ≡ changed (cache p)
   pub count : (cache q).count ≡ (cache p).count
 
 -- page x was read, from a frame or from the disk
@@ -207,6 +208,7 @@ pub record Got (m : Medium) (p : List ℕ) (s : Store) (x : ℕ) (b : List ℕ) 
   pub intact : Intact e q s
   pub head : next_of q ≡ next_of p
   pub view : shown_by (cache q) e.shown ≡ shown_by (cache p) m.shown
+  pub changes : changed (cache q) ≡ changed (cache p)
   pub count : (cache q).count ≡ (cache p).count
   pub left : m.left ≤ e.left + 1
 
@@ -214,12 +216,13 @@ abbrev pub Gets : Medium → List ℕ → Store → ℕ → List ℕ → Bool �
 Gets m p s x b true e q = Got m p s x b e q
 Gets m p s x b false e q = Lost m e
 
--- page x is b now, in a changed frame
+-- page x is b now, in a changed frame: it takes a place of the batch unless it has one
 pub record Staged (m : Medium) (p : List ℕ) (s : Store) (x : ℕ) (b : List ℕ) (q : List ℕ) : Type 0 where
   pub intact : Intact m q s
   pub head : next_of q ≡ next_of p
   pub view : shown_by (cache q) m.shown ≡ at x b (shown_by (cache p) m.shown)
-  pub count : (cache q).count ≤ (cache p).count + 1
+  pub changes : changed (cache q) ≡ at x true (changed (cache p))
+  pub count : (cache q).count ≤ (cache p).count + cond (changed (cache p) x) 0 1
 
 -- another top of the free list, or another number of pages ever used
 abbrev pub with_free : Store → ℕ → Store
@@ -235,6 +238,7 @@ pub record Given (m : Medium) (p : List ℕ) (s : Store) (x : ℕ) (e : Medium) 
   pub intact : Intact e q z
   pub head : next_of q ≡ next_of p
   pub view : shown_by (cache q) e.shown ≡ shown_by (cache p) m.shown
+  pub changes : changed (cache q) ≡ changed (cache p)
   pub count : (cache q).count ≡ (cache p).count
   pub new : s.root.free ≡ 0 → (x ≡ 393 + s.root.used) × (z ≡ with_used s (s.root.used + 1))
   pub old : (s.root.free ≢ 0) → (x ≡ s.root.free) × (z ≡ with_free s (slice_index (shown_by (cache p) m.shown s.root.free) 0))

@@ -201,6 +201,13 @@ impl<'a> HeadPage<'a> {
         self.words[FULL]
     }
 
+    /// How many records at the queue's front are done.
+    pub fn done(&self) -> u64
+        ensures { result ≡ self.now.done }
+    {
+        self.words[DONE]
+    }
+
     /// Page i of the ring, from the first full one on.
     pub fn ring_page(&self, i: u64) -> u64
         requires { (self.now.first < 264) × (i < 264) }

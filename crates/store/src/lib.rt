@@ -18,6 +18,7 @@ use head::Root;
 pub use lasting::Lasted;
 pub use pages::Gone;
 pub use part::{PART_WORDS, Part, next_page, part_of, scratch};
+pub use queue::{queue_len, queue_pages};
 pub use shown::write_page;
 
 /// fresh: pages of the ring were written since the last sync. imaged: the changed frames stand in the other region,

@@ -1,6 +1,6 @@
 // Pages as the frames and the disk show them, and the list of those that are free.
-ghost use Rattle.std.specs.Prelude.{◌≡◌, ℕ, ◌+◌, ◌<◌, ◌≤◌, ◌≢◌, not, T, length, replicate, is_ok, Some, None, MatchResult, slice_set};
-ghost use Rattle.frames.specs.Frames.{Sound as Framed, Idle, slot_of, page_in, pinned};
+ghost use Rattle.std.specs.Prelude.{◌≡◌, ℕ, ◌+◌, ◌<◌, ◌≤◌, ◌≢◌, false, not, T, length, replicate, is_ok, Some, None, MatchResult, slice_set};
+ghost use Rattle.frames.specs.Frames.{Sound as Framed, Idle, slot_of, page_in, mark_in, changed, pinned};
 ghost use Rattle.store.specs.Medium.{Medium};
 ghost use Rattle.store.specs.Store.{frames_of, Intact, Looked, Gets, Staged, Given, Lost, with_free, cache};
 
@@ -46,7 +46,7 @@ fn change_in(part: &mut Part, slot: Slot, p: u64, words: &[u64])
     requires table { Framed (frames_of part.old) }
     requires fits { length words.now ≡ 512 }
     requires there { (slot_of (cache part.old) p ≡ Some slot) × (0 < page_in (cache part.old) slot) }
-    requires room { (cache part.old).count < 64 }
+    requires room { mark_in (cache part.old) slot ≡ 0 → (cache part.old).count < 64 }
     ensures staged { (m : Medium) (s : Store) → Intact m part.old s → T (not s.imaged) → 393 ≤ p → p < m.pages → Staged m part.old s p words.now part.new }
 {
     let (held, _rest) = part.split_at_mut(NEXT);
@@ -68,12 +68,13 @@ fn stage_in(part: &mut Part, slot: Slot, p: u64, words: &[u64])
     frames.stage(slot, p, words);
 }
 
-/// Page p is changed in the frames; the disk learns of it with the batch. Not while images stand.
+/// Page p is changed in the frames; the disk learns of it with the batch. Not while images stand. A page that is changed already takes no
+/// place of the batch.
 pub fn write_page(part: &mut Part, p: u64, words: &[u64])
     requires table { Framed (frames_of part.old) }
     requires fits { (0 < p) × (length words.now ≡ 512) }
     requires free { pinned (cache part.old) ≡ 0 }
-    requires room { (cache part.old).count < 64 }
+    requires room { changed (cache part.old) p ≡ false → (cache part.old).count < 64 }
     ensures staged { (m : Medium) (s : Store) → Intact m part.old s → T (not s.imaged) → 393 ≤ p → p < m.pages → Staged m part.old s p words.now part.new }
 {
     let frames = look(part);
@@ -114,7 +115,7 @@ impl Store {
     pub fn alloc<D: Device>(&mut self, d: &mut D, part: &mut Part) -> Result<u64, Gone>
         requires intact { Intact (D.medium d.old) part.old self.old }
         requires old { (self.old.root.free ≢ 0) → (393 ≤ self.old.root.free) × (self.old.root.free < (D.medium d.old).pages) }
-        requires new { (393 + self.old.root.used < (D.medium d.old).pages) × ((D.medium d.old).pages ≤ 4294967296) }
+        requires new { self.old.root.free ≡ 0 → (393 + self.old.root.used < (D.medium d.old).pages) × ((D.medium d.old).pages ≤ 4294967296) }
         requires asks { 0 < (D.medium d.old).left }
         ensures allocs { MatchResult result (λ x. Given (D.medium d.old) part.old self.old x (D.medium d.new) part.new self.new) (λ _. Lost (D.medium d.old) (D.medium d.new)) }
         ensures tied { D.tie d.new ≡ D.tie d.old }
@@ -136,7 +137,7 @@ impl Store {
         requires table { Framed (frames_of part.old) }
         requires fits { 0 < p }
         requires free { pinned (cache part.old) ≡ 0 }
-        requires room { (cache part.old).count < 64 }
+        requires room { changed (cache part.old) p ≡ false → (cache part.old).count < 64 }
         ensures root { self.new ≡ with_free self.old p }
         ensures staged { (m : Medium) → Intact m part.old self.old → T (not self.old.imaged) → 393 ≤ p → p < m.pages → Staged m part.old self.old p (slice_set (replicate 512 0) 0 self.old.root.free) part.new }
         ensures intact { (m : Medium) → Intact m part.old self.old → T (not self.old.imaged) → 393 ≤ p → p < m.pages → Intact m part.new self.new }

@@ -3,10 +3,6 @@ use Rattle.std.proofs.lemmas.Result.{err_from_is_err_and}
 use Rattle.store.proofs.Shots.{shot, shot_lost}
 use Rattle.store.proofs.Store.image.Goals as goal
 
-pub write_images-requires : goal.write_images-requires
-write_images-requires g c = let i = c.requires.intact in
-    record { table = i.table; side = i.ready.follows.ok.side; big = i.ready.kept.safe.big; asks = c.requires.asks }
-
 pub returns-in_err-write_images-clause-shoots : goal.returns-in_err-write_images-clause-shoots
 returns-in_err-write_images-clause-shoots g c =
     let p = err_from_is_err_and c.from_residual.result c.from_residual.ensures.1 in

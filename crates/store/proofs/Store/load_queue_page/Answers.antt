@@ -1,23 +1,29 @@
-use Rattle.std.proofs.Common.{ℕ, ◌<◌, is_ok, ap, ◌∙◌, sym, subst, arith}
-use Rattle.store.specs.Medium.{Reads}
-use Rattle.store.specs.Head.{Head, ring_page}
-use Rattle.store.specs.Store.{scratch_of}
-use Rattle.store.proofs.Views.{intact_read, intact_part}
+use Rattle.std.proofs.Common.{ap, ◌∙◌, arith}
+use Rattle.std.proofs.lemmas.Result.{err_from_is_err_and}
+use Rattle.store.specs.Head.{Head}
+use Rattle.store.proofs.Comes.{read_lost}
+use Rattle.store.proofs.Queued.{loaded_ring, loaded_head}
 use Rattle.store.proofs.Store.load_queue_page.Goals as goal
+use Rattle.store.proofs.Store.load_queue_page.Goals.{then-i-full+in_ok-load_ring_page, else-i-full}
 
-pub ring_page-p-requires : goal.ring_page-p-requires
-ring_page-p-requires g c = let k = c.requires.intact.ready.follows.ok in
-    (subst (λ (h : Head). h.first < 264) (sym c.next_head.ensures) k.turn, omega (arith, c.requires.full, k.room))
+pub load_ring_page-requires : goal.load_ring_page-requires
+load_ring_page-requires g c = record { intact = c.requires.intact; full = omega (arith, c.if-i-full.true, c.full.ensures ∙ ap (λ (h : Head). h.full) c.next_head.ensures); asks = c.requires.asks }
 
-pub load_scratch-requires : goal.load_scratch-requires
-load_scratch-requires g c = let i = c.requires.intact in record { ask = (c.requires.asks, omega (arith, c.ring_page-p.ensures, i.ready.kept.safe.big)) }
+pub returns-in_err-load_ring_page-clause-loads : goal.returns-in_err-load_ring_page-clause-loads
+returns-in_err-load_ring_page-clause-loads g c =
+    let p = err_from_is_err_and c.from_residual.result c.from_residual.ensures.1 in
+    rw p.1 (read_lost _ _ _ _ c.requires.intact.ready.kept.safe c.in_err-load_ring_page.ensures.reads)
 
-pub returns-clause-reads : goal.returns-clause-reads
-returns-clause-reads g c =
-    subst (λ (p : ℕ). Reads (g.D.Device.medium c.args.d.now) p (scratch_of c.load_scratch.new.part) (is_ok c.load_scratch.result) (g.D.Device.medium c.load_scratch.new.d))
-    (c.ring_page-p.ensures ∙ ap (λ (h : Head). ring_page h c.args.i) c.next_head.ensures) c.load_scratch.ensures.reads
-
-pub returns-clause-intact : goal.returns-clause-intact
-returns-clause-intact g c =
-    let i = c.requires.intact in let l = c.load_scratch.ensures in
-    intact_read _ _ _ c.args.self.now _ _ _ l.reads (intact_part _ c.args.part.now c.load_scratch.new.part c.args.self.now c.load_scratch.array_long l.frames l.head i)
+pub returns-clause-loads : goal.returns-clause-loads
+returns-clause-loads g c =
+    let f = c.full.ensures ∙ ap (λ (h : Head). h.full) c.next_head.ensures in
+    elim c.if-i-full.branch [
+      | then-i-full+in_ok-load_ring_page w ↦
+          let y = w.in_ok-load_ring_page.ensures in
+          rw (w.d-is) (loaded_ring _ _ c.args.part.now c.if-i-full.part c.args.self.now c.args.i c.places_on.result c.places_on.ensures.start c.places_on.ensures.end (omega (arith, w.if-i-full.true, f)) c.requires.intact
+          (rw (w.part-is) y.reads) (rw (w.part-is) y.intact) (rw (w.part-is) y.head) (rw (w.part-is) y.frames))
+      | else-i-full w ↦
+          let y = w.next_to_scratch.ensures in
+          rw (w.d-is) (loaded_head _ c.args.part.now c.if-i-full.part c.args.self.now c.args.i c.places_on.result c.places_on.ensures.start c.places_on.ensures.end (omega (arith, w.if-i-full.false, f, c.requires.page)) c.requires.intact
+          (rw (w.part-is) y.scratch) c.if-i-full.array_long (rw (w.part-is) y.head) (rw (w.part-is) y.frames))
+    ]

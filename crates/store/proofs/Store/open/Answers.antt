@@ -1,30 +1,18 @@
-use Rattle.std.proofs.Common.{ℕ, ◌≤◌, true, false, List, length, sym, ap, ◌∙◌, subst, arith}
+use Rattle.std.proofs.Common.{ℕ, true, false, List, sym, ap, ◌∙◌, subst}
 use Rattle.std.proofs.lemmas.Result.{MatchResult-from_err}
 use Rattle.frames.specs.Layout.{cache_of}
 use Rattle.frames.specs.Frames.{Sound as Framed, Clean, pinned, shown_by}
 use Rattle.store.specs.Head.{Head, head_of, stamped}
 use Rattle.store.proofs.Media.{rested_safe}
-use Rattle.store.proofs.Comes.{rested_read, read_lost, redo_lost, opened}
+use Rattle.store.proofs.Comes.{read_lost, redo_lost, opened}
 use Rattle.store.proofs.Store.open.Goals as goal
 
 pub returns-in_err-load_head-clause-opens : goal.returns-in_err-load_head-clause-opens
 returns-in_err-load_head-clause-opens g c = MatchResult-from_err c.from_residual.result _ _ c.from_residual.ensures.0 (λ _. read_lost _ _ _ _ (rested_safe c.requires.rested) c.in_err-load_head.ensures.reads)
 
-pub redo-requires : goal.redo-requires
-redo-requires g c = let r = c.in_ok-load_head.ensures.reads in record {
-  rested = rested_read _ _ _ _ _ r c.requires.rested;
-  asks = omega (arith, r.left, c.requires.asks);
-  head = r.got tt ∙ sym (ap (λ s. s 0) r.shown);
-}
-
 pub returns-in_err-redo-clause-opens : goal.returns-in_err-redo-clause-opens
 returns-in_err-redo-clause-opens g c = MatchResult-from_err c.from_residual-in_err-redo.result _ _ c.from_residual-in_err-redo.ensures.0
     (λ _. redo_lost (g.D.Device.medium c.args.d.now) _ _ c.load_head.new.part false c.requires.rested c.in_ok-load_head.ensures.reads c.in_err-redo.ensures.row tt)
-
-pub stamp_next-requires : goal.stamp_next-requires
-stamp_next-requires g c = let r = c.in_ok-load_head.ensures.reads in record {
-  few = subst (λ (w : List ℕ). length (head_of w).targets ≤ 64) (sym (c.clear_frames.ensures.head ∙ c.redo.ensures.head ∙ r.got tt)) c.requires.rested.head.few;
-}
 
 pub returns-clause-opens : goal.returns-clause-opens
 returns-clause-opens g c =

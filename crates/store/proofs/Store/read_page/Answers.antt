@@ -1,16 +1,10 @@
 use Rattle.std.proofs.Common.{sym, ap, ◌∙◌, arith}
 use Rattle.std.proofs.lemmas.Result.{err_from_is_err_and}
-use Rattle.frames.specs.Layout.{Cache, frame_in}
+use Rattle.frames.specs.Layout.{Cache}
 use Rattle.frames.specs.Frames.{slot_of}
 use Rattle.store.proofs.Comes.{read_lost}
-use Rattle.store.proofs.Views.{intact_read, got_frame, got_disk}
+use Rattle.store.proofs.Views.{intact_read, got_disk}
 use Rattle.store.proofs.Store.read_page.Goals as goal
-
-pub returns-in-Some-clause-got : goal.returns-in-Some-clause-got
-returns-in-Some-clause-got g c =
-    let e = c.look-frames.ensures in
-    let there = ap (λ (d : Cache). slot_of d c.args.p) (sym e) ∙ sym c.in-Some.ensures.slot in
-    got_frame _ c.args.part.now c.args.self.now c.args.p c.in-Some.slot _ c.requires.intact there (c.copy_out.ensures ∙ ap (λ (d : Cache). frame_in d.frames c.in-Some.slot) e)
 
 pub returns-in_err-read-clause-got : goal.returns-in_err-read-clause-got
 returns-in_err-read-clause-got g c =

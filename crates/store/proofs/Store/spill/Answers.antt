@@ -1,13 +1,9 @@
-use Rattle.std.proofs.Common.{ℕ, ◌<◌, List, true, false, sym, subst, ap, ◌∙◌, arith}
+use Rattle.std.proofs.Common.{ℕ, List, true, false, subst, ap, ◌∙◌}
 use Rattle.std.proofs.lemmas.Result.{err_from_is_err_and}
 use Rattle.store.specs.Medium.{Wrote}
 use Rattle.store.specs.Head.{Head, ring_page}
 use Rattle.store.proofs.Grows.{spilled, spill_lost}
 use Rattle.store.proofs.Store.spill.Goals as goal
-
-pub ring_page-p-requires : goal.ring_page-p-requires
-ring_page-p-requires g c = let k = c.requires.ready.follows.ok in
-    (subst (λ (h : Head). h.first < 264) (sym c.next_head-next.ensures) k.turn, omega (arith, c.full.ensures, ap (λ (h : Head). h.full) c.next_head-next.ensures, k.room))
 
 pub returns-in_err-write-clause-spills : goal.returns-in_err-write-clause-spills
 returns-in_err-write-clause-spills g c =

@@ -9,17 +9,6 @@ use Rattle.store.proofs.batch.write_batch.Goals as goal
 pub loop-k-init : goal.loop-k-init
 loop-k-init g c = record { row = λ t f. wrote_none _ _ _; pages = refl; left = omega arith; tied = refl }
 
-pub write_frame-requires : goal.write_frame-requires
-write_frame-requires g c =
-    let v = c.loop-k.invariant in
-    let n = c.batch_len-k-end.ensures.count ∙ ap (λ (d : Cache). d.count) c.look-frames.ensures in
-    record {
-      ask = (
-        omega (arith, c.requires.asks, v.left, c.loop-k-test.true, n),
-        omega (arith, v.pages, c.requires.near c.loop-k.k c.to.result (omega (arith, c.loop-k-test.true, n)) c.to.ensures),
-      );
-    }
-
 pub returns-in_err-write_frame-clause-row : goal.returns-in_err-write_frame-clause-row
 returns-in_err-write_frame-clause-row g c =
     let p = err_from_is_err_and c.from_residual.result c.from_residual.ensures.1 in

@@ -1,4 +1,4 @@
-use Rattle.std.proofs.Common.{◌<◌, ◌≤◌, length, sym, refl, ap, ◌∙◌, subst, arith}
+use Rattle.std.proofs.Common.{◌<◌, length, sym, refl, ap, ◌∙◌, subst, arith}
 use Rattle.std.proofs.lemmas.Result.{err_from_is_err_and}
 use Rattle.store.specs.Head.{Head, head_of, Sound, slot, slot_in, target}
 use Rattle.store.specs.Store.{next}
@@ -8,44 +8,6 @@ use Rattle.store.proofs.open.redo.Goals as goal
 
 pub loop-k-init : goal.loop-k-init
 loop-k-init g c = record { row = wrote_none _ _ _; head = refl; tied = refl }
-
-pub batch_len-n-requires : goal.batch_len-n-requires
-batch_len-n-requires g c =
-    let s : Sound (g.D.Device.medium c.args.d.now).pages (next c.args.part.now) = subst (λ w. Sound (g.D.Device.medium c.args.d.now).pages (head_of w)) (sym c.requires.head) c.requires.rested.head in
-    omega (arith, s.few, ap (λ (h : Head). length h.targets) c.next_head.ensures)
-
-pub slot_in-from-requires : goal.slot_in-from-requires
-slot_in-from-requires g c =
-    let s : Sound (g.D.Device.medium c.args.d.now).pages (next c.args.part.now) = subst (λ w. Sound (g.D.Device.medium c.args.d.now).pages (head_of w)) (sym c.requires.head) c.requires.rested.head in
-    let n = c.batch_len-n.ensures ∙ ap (λ (h : Head). length h.targets) c.next_head.ensures in
-    let e = c.next_head-head.ensures ∙ ap head_of c.loop-k.invariant.head in
-    let l : c.loop-k.k < length (next c.args.part.now).targets = omega (arith, c.loop-k-test.true, n) in
-    (omega (arith, s.side, c.region.ensures, ap (λ (h : Head). h.region) e), omega (arith, s.few, l))
-
-pub target-to-requires : goal.target-to-requires
-target-to-requires g c =
-    let s : Sound (g.D.Device.medium c.args.d.now).pages (next c.args.part.now) = subst (λ w. Sound (g.D.Device.medium c.args.d.now).pages (head_of w)) (sym c.requires.head) c.requires.rested.head in
-    let n = c.batch_len-n.ensures ∙ ap (λ (h : Head). length h.targets) c.next_head.ensures in
-    let e = c.next_head-head.ensures ∙ ap head_of c.loop-k.invariant.head in
-    let l : c.loop-k.k < length (next c.args.part.now).targets = omega (arith, c.loop-k-test.true, n) in
-    record {
-      few = subst (λ (h : Head). length h.targets ≤ 64) (sym e) s.few;
-      named = subst (λ (h : Head). c.loop-k.k < length h.targets) (sym e) l;
-    }
-
-pub copy_page-requires : goal.copy_page-requires
-copy_page-requires g c =
-    let s : Sound (g.D.Device.medium c.args.d.now).pages (next c.args.part.now) = subst (λ w. Sound (g.D.Device.medium c.args.d.now).pages (head_of w)) (sym c.requires.head) c.requires.rested.head in
-    let n = c.batch_len-n.ensures ∙ ap (λ (h : Head). length h.targets) c.next_head.ensures in
-    let e = c.next_head-head.ensures ∙ ap head_of c.loop-k.invariant.head in
-    let from = c.slot_in-from.ensures ∙ ap (λ r. slot_in r c.loop-k.k) c.region.ensures ∙ ap (λ (h : Head). slot h c.loop-k.k) e in
-    let to = c.target-to.ensures ∙ ap (λ (h : Head). target h c.loop-k.k) e in
-    let l : c.loop-k.k < length (next c.args.part.now).targets = omega (arith, c.loop-k-test.true, n) in
-    let w = c.loop-k.invariant.row in
-    record {
-      asks = omega (arith, c.requires.asks, w.left tt, s.few);
-      near = (omega (arith, from, s.side, s.few, c.requires.rested.big, w.pages), omega (arith, to, s.near c.loop-k.k l, w.pages));
-    }
 
 pub returns-in_err-copy_page : goal.returns-in_err-copy_page
 returns-in_err-copy_page g c =

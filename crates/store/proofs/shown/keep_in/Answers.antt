@@ -1,6 +1,9 @@
 use Rattle.std.proofs.Common.{◌≡◌, ℕ, List, length, sym, ap, ◌∙◌, subst, rules}
 use Rattle.frames.specs.Layout.{Cache, cache_of}
-use Rattle.frames.specs.Frames.{Sound as Framed, Clean, shown_by, fill}
+use Rattle.frames.specs.Frames.{Sound as Framed, Clean, changed, shown_by, fill}
+use Rattle.frames.proofs.Slots.{rows}
+use Rattle.frames.proofs.Changed.{filled_changed}
+use Rattle.store.specs.Store.{frames_of, cache}
 use Rattle.store.proofs.Places.{frames_parts, held_next, held_long}
 use Rattle.store.proofs.Views.{intact_filled}
 use Rattle.store.proofs.shown.keep_in.Goals as goal
@@ -27,6 +30,7 @@ returns c =
                 (subst (λ (x : List ℕ). Clean (cache_of x) m.shown) (sym f) y.1) c.requires.idle c.fill.ensures.stands.low c.requires.fits.1 far near;
             head = next;
             view = ap (λ (x : List ℕ). shown_by (cache_of x) m.shown) f ∙ y.0 ∙ ap (λ (x : List ℕ). shown_by (cache_of x) m.shown) held;
+            changes = ap changed ca ∙ filled_changed (cache part) i.table.table (rows (frames_of part) i.table.sized) slot c.args.p c.fill.ensures.stands.low words c.requires.fits.0 c.requires.idle c.requires.new;
             count = ap (λ (d : Cache). d.count) ca;
           };
     }

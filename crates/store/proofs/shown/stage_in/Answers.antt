@@ -1,9 +1,10 @@
-use Rattle.std.proofs.Common.{◌≡◌, ℕ, ◌+◌, ◌<◌, ◌≤◌, List, length, get_or, sum, sym, ap, ◌∙◌, subst, rules}
+use Rattle.std.proofs.Common.{◌≡◌, ℕ, ◌+◌, ◌<◌, ◌≤◌, cond, List, length, get_or, sum, sym, ap, ◌∙◌, subst, rules}
 use Rattle.frames.specs.Layout.{Cache, cache_of}
-use Rattle.frames.specs.Frames.{Sound as Framed, Clean, at, pinned, shown_by, fill, enter}
+use Rattle.frames.specs.Frames.{Sound as Framed, Clean, at, pinned, changed, shown_by, fill, enter}
 use Rattle.frames.proofs.Slots.{rows}
 use Rattle.store.specs.Store.{frames_of, cache}
 use Rattle.store.proofs.Places.{frames_parts, held_next, held_long}
+use Rattle.store.proofs.Changing.{staged_changed, staged_count}
 use Rattle.store.proofs.Views.{entered_like, intact_changed, plain_set}
 use Rattle.store.proofs.shown.stage_in.Goals as goal
 
@@ -32,6 +33,7 @@ returns c =
         view = ap (λ (x : List ℕ). shown_by (cache_of x) m.shown) f
             ∙ c.stage.ensures.shown m.shown (subst (λ (x : List ℕ). Clean (cache_of x) m.shown) (sym held) i.clean)
             ∙ ap (λ (x : List ℕ). at c.args.p words (shown_by (cache_of x) m.shown)) held;
-        count = subst (λ (d : Cache). d.count ≤ (cache part).count + 1) (sym ca) y.2;
+        changes = ap changed ca ∙ staged_changed (cache part) i.table.table (rows (frames_of part) i.table.sized) slot c.args.p words c.stage.ensures.stands.low c.requires.fits.1 c.requires.fits.0 c.requires.idle c.requires.new;
+        count = subst (λ (d : Cache). d.count ≤ (cache part).count + cond (changed (cache part) c.args.p) 0 1) (sym ca) (staged_count (cache part) (enter (fill (cache part) slot c.args.p words) slot) c.args.p c.requires.new y.2);
       };
     }

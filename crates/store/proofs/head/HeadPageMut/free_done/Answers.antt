@@ -11,17 +11,9 @@ pub overflow_add-head : goal.overflow_add-head
 unfolding head_of
 overflow_add-head c = omega (arith, c.requires.ring.0, c.requires.ring.1.0, c.min-whole.ensures)
 
-pub overflow_sub-head : goal.overflow_sub-head
-unfolding head_of
-overflow_sub-head c = omega (arith, c.min-whole.ensures)
-
 pub overflow_mul-head : goal.overflow_mul-head
 unfolding head_of
 overflow_mul-head c = omega (arith, c.requires.ring.1.0, c.min-whole.ensures)
-
-pub overflow_sub-head-2 : goal.overflow_sub-head-2
-unfolding head_of
-overflow_sub-head-2 c = omega (arith, c.min-whole.ensures)
 
 pub invariant_of-self : goal.invariant_of-self
 unfolding head_of
