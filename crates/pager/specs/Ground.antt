@@ -30,6 +30,13 @@ taken_by r v q = in_use r.used q - occ q (free_by r v)
 abbrev pub room_by : ℕ → Root → (ℕ → List ℕ) → ℕ
 room_by p r v = (p - (393 + r.used)) + length (free_by r v)
 
+-- another top of the free list, or another number of pages ever used
+abbrev pub root_with_free : Root → ℕ → Root
+root_with_free r f = record { page = r.page; height = r.height; pairs = r.pairs; free = f; used = r.used }
+
+abbrev pub root_with_used : Root → ℕ → Root
+root_with_used r u = record { page = r.page; height = r.height; pairs = r.pairs; free = r.free; used = u }
+
 -- the free list is in order, on a disk of p pages
 pub record Frees (p : ℕ) (r : Root) (v : ℕ → List ℕ) : Type 0 where
   pub ends : Ends r.used r.free v
@@ -39,6 +46,9 @@ pub record Frees (p : ℕ) (r : Root) (v : ℕ → List ℕ) : Type 0 where
 abbrev pub pairs_by : Root → (ℕ → List ℕ) → List (ℕ × ℕ)
 pairs_by r v = pairs_of_tree v r.height r.page
 
+abbrev pub pages_by : Root → (ℕ → List ℕ) → List ℕ
+pages_by r v = pages_of_tree v r.height r.page
+
 -- the pages v as a store of the tree's that nobody asks
 abbrev pub still : ℕ → Root → (ℕ → List ℕ) → PageState
 still p r v = record { page = v; taken = taken_by r v; room = room_by p r v; left = 0; dirty = λ _. 0; spare = 0 }
@@ -47,5 +57,5 @@ still p r v = record { page = v; taken = taken_by r v; room = room_by p r v; lef
 pub record Grounded (p : ℕ) (r : Root) (v : ℕ → List ℕ) : Type 0 where
   pub frees : Frees p r v
   pub sound : Sound (still p r v) r.height r.page
-  pub whole : (q : ℕ) → occ q (pages_of_tree v r.height r.page) ≡ taken_by r v q
+  pub whole : (q : ℕ) → occ q (pages_by r v) ≡ taken_by r v q
   pub pairs : r.pairs ≡ length (pairs_by r v)
