@@ -1,9 +1,9 @@
 -- The book: what has lasted of it on the disk, and how it stands in the room.
-use Rattle.std.specs.Prelude.{◌≡◌, ℕ, ◌-◌, ◌*◌, ◌<◌, ◌≤◌, false, T, ◌⊎◌, List, map, length, take, drop, None, slice_index}
+use Rattle.std.specs.Prelude.{◌≡◌, ℕ, ◌-◌, ◌*◌, ◌<◌, ◌≤◌, Bool, true, false, T, ◌⊎◌, List, map, length, take, drop, None, slice_index}
 use Rattle.lines.specs.declared.line.Line.{Line}
 use Rattle.lines.specs.declared.line.Line.TheVariants.{Wrote, Cleared}
 use Rattle.lines.specs.Lines.{bare}
-use Rattle.lines.specs.Tables.{behind, clerks_in, deal_lines, queue_lines, QueueIn}
+use Rattle.lines.specs.Tables.{tables, behind, clerks_in, deal_lines, queue_lines, QueueIn}
 use Rattle.store.specs.declared.head.Record.{Record}
 use Rattle.store.specs.declared.head.Record.TheVariants.{Put, Drop}
 use Rattle.store.specs.Medium.{Medium, Back}
@@ -90,6 +90,22 @@ pub record Cut (p : ℕ) (b : Pairs) (e : Medium) : Type 0 where
 pub record CutEither (p : ℕ) (b c : Pairs) (e : Medium) : Type 0 where
   pub off : e.on ≡ false
   pub back : (f : Medium) → Back e f → Rests p f b ⊎ Rests p f c
+
+-- the book b stands again; or the power went, and it comes back
+abbrev pub Stays : ℕ → Pairs → Bool → Medium → List ℕ → Ledger → Type 0
+Stays p b true e room l = Stands p e room l b
+Stays p b false e room l = Cut p b e
+
+-- the book c has lasted; or the power went, and it comes back, or b does
+abbrev pub Becomes : ℕ → Pairs → Pairs → Bool → Medium → List ℕ → Ledger → Type 0
+Becomes p b c true e room l = Stands p e room l c
+Becomes p b c false e room l = CutEither p b c e
+
+-- nothing but the store's part of the room has changed
+pub record OnlyPart (room then : List ℕ) : Type 0 where
+  pub long : length then ≡ length room
+  pub tables : tables then ≡ tables room
+  pub clerks : clerks_in then ≡ clerks_in room
 
 -- nothing of the deals and of the clerks' tables has changed
 pub record Aside (room then : List ℕ) : Type 0 where

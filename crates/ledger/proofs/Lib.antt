@@ -1,0 +1,15 @@
+pub mod Parting
+pub mod Means
+pub mod Counting
+pub mod Ahead
+pub mod Appending
+pub mod Standing
+pub mod Settling
+pub mod Fronts
+pub mod Works
+pub mod Sums
+pub mod Looking
+pub mod Asking
+pub mod Opens
+pub mod Filing
+pub mod Telling
