@@ -7,6 +7,7 @@ use Rattle.deals.specs.declared.Answer.{Answer}
 use Rattle.deals.specs.Deals.{Book, Said, Now, State, set_clerk, aged, step, agrees, leaves, marks_of, told, same, writes, looked, some_writes, some_looked, write_up_to, write_within, barred}
 use Rattle.deals.specs.Promise.{bars_none}
 use Rattle.deals.proofs.Books.{Up, up_rising, and_t, t_and, same_refl}
+pub use Rattle.deals.specs.Sits.{Apart}
 use Rattle.deals.proofs.Writes.{up_leaves}
 use Rattle.deals.proofs.Others.{keeps_others}
 
@@ -86,12 +87,6 @@ agrees_push (r ∷ ss) s b ms t e =
     let m = and_t (same (step r.op b ms).answer r.told) (agrees ss (step r.op b ms).book (step r.op b ms).marks) t in
     t_and (same (step r.op b ms).answer r.told) (agrees (ss ++ s ∷ []) (step r.op b ms).book (step r.op b ms).marks) m.0
     (agrees_push ss s (step r.op b ms).book (step r.op b ms).marks m.1 e)
-
--- THE DISCIPLINE: every deal agrees, and none is in another's way
-pub record Apart (s : State) : Type 0 where
-  pub up : Up 0 s.book
-  pub agree : (c : ℕ) → T (agrees (s.clerk c).deal s.book [])
-  pub apart : (c e : ℕ) → (c ≡ e → ⊥) → T (bars_none (s.clerk c).deal (s.clerk e).deal)
 
 -- one clerk's deal is another now, and perhaps the book
 pub apart_set : (s : State) (c : ℕ) (d : List Said) (n : Now) (b : Book) → Apart s → Up 0 b → T (agrees d b [])

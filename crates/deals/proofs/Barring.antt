@@ -10,7 +10,8 @@ use Rattle.locks.specs.Bars.{within, writes_key, looks_key, writes_within, bars,
 use Rattle.locks.proofs.Ways.{or_none, or_assoc, bars_push}
 use Rattle.deals.specs.Deals.{Said, up_to, writes, looked, write_up_to, some_writes, some_looked, write_within, barred}
 use Rattle.deals.specs.Rows.{scan_line, line_for, gone_by, then_lines, lines_from, said_lines, bare, want_of, Found, Finds}
-use Rattle.deals.proofs.Backs.{is_mark, back_on}
+use Rattle.lines.proofs.Going.{is_mark}
+use Rattle.deals.proofs.Backs.{back_on}
 
 -- LINES THAT LOCK ALIKE
 abbrev Alike : Line → Line → Type 0

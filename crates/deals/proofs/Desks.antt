@@ -3,11 +3,12 @@ use Rattle.std.proofs.Common.{◌≡◌, ℕ, ◌+◌, ◌*◌, ◌<◌, ◌≤�
 use borrow.Rule.Slice.PartMut.{put_mid}
 use Rattle.std.proofs.lemmas.List.{get_or-set_same, get_or-set_other, length_push}
 use Rattle.std.proofs.lemmas.Bool.{cases_lt, cases_eq, eq-eqb, ne_eqb}
+use Rattle.lines.specs.declared.line.Line.{Line}
 use Rattle.lines.specs.Rings.{lines_of}
 use Rattle.lines.specs.Tables.{deal_ring, deal_lines}
 use Rattle.deals.specs.Deals.{Book, Said, State, Now, set_clerk}
 use Rattle.deals.specs.Rows.{lines_from, said_lines, bare}
-use Rattle.deals.specs.Tables.{count_at, lines_in, Off, Sound, OnlyDeals, Keeps, Desk}
+use Rattle.deals.specs.Tables.{count_at, lines_in, Off, Sound, OnlyLines, OnlyDeals, Keeps, Desk}
 use Rattle.deals.proofs.Offs.{Kept, set_off, mid_off, mid_at, off_kept, kept_then, kept_part, kept_lines, only_deals}
 
 set_deal : (s : State) (b : Book) (c : ℕ) (d : List Said) (n : Now) → ((set_clerk c d n (record { book = b; clerk = s.clerk })).clerk c).deal ≡ d
@@ -83,6 +84,10 @@ module _ (r y : List ℕ) (c k m : ℕ) (i : Sound r) (l : c < 32) (wide : k ≡
   noted_deals s b d n desk e f =
       desk_set r last s b c d n desk (λ e h x. (count_there e x h, lines_there e x h)) (record { count = count_here ∙ e; lines = ap (map bare) lines_here ∙ f })
 
+  pub noted_lines : (ls : List Line) → lines_of y (deal_ring m) ≡ ls → OnlyLines c ls r (set (put_mid (3072 * c) k r y) (259680 + c) m)
+  unfolding last then
+  noted_lines ls e = record { here = lines_here ∙ e; there = λ e h x. lines_there e x h }
+
   short : (e : ℕ) → e < 32 → count_at last e ≤ 1024
   short e h = elim (cases_eq e c) [ inl q ↦ rw (q, count_here) few | inr x ↦ rw (count_there e x h) (i.short e h) ]
 
@@ -97,9 +102,9 @@ module _ (r y : List ℕ) (c k m : ℕ) (i : Sound r) (l : c < 32) (wide : k ≡
 pub told_count : (room : List ℕ) (c : ℕ) (ss : List Said) (s : Said) → Keeps room c ss → count_at room c + 1 ≡ length (ss ++ s ∷ [])
 told_count room c ss s i = ap (λ n. n + 1) i.count ∙ sym (length_push ss s)
 
-pub lines_part : (room : List ℕ) (c k : ℕ) (ss : List Said) → k ≡ 3072 → Keeps room c ss → map bare (lines_of (take k (drop (3072 * c) room)) (deal_ring (count_at room c))) ≡ said_lines ss
+pub lines_part : (room : List ℕ) (c k : ℕ) → k ≡ 3072 → lines_of (take k (drop (3072 * c) room)) (deal_ring (count_at room c)) ≡ lines_in room c
 unfolding lines_in deal_lines
-lines_part room c k ss e i = rw e i.lines
+lines_part room c k e = ap (λ j. lines_of (take j (drop (3072 * c) room)) (deal_ring (count_at room c))) e
 
 -- A DEAL ENDS: no lines
 module _ (r : List ℕ) (c : ℕ) (i : Sound r) (l : c < 32) where
@@ -118,12 +123,20 @@ module _ (r : List ℕ) (c : ℕ) (i : Sound r) (l : c < 32) where
   unfolding none
   none_there e x h = get_or-set_other r (259680 + c) (259680 + e) 0 0 (λ q. x (omega arith))
 
+  lines_none : lines_in none c ≡ []
+  unfolding none lines_in deal_lines lines_of
+  lines_none = ap (λ m. lines_of (take 3072 (drop (3072 * c) none)) (deal_ring m)) none_here
+
+  lines_left : (e : ℕ) → e < 32 → (e ≡ c → ⊥) → lines_in none e ≡ lines_in r e
+  lines_left e h x = kept_lines r none e cleared.long (off_kept (259680 + c) 1 r none (3072 * e) 3072 cleared (inl (omega arith))) (none_there e x h)
+
+  pub forgot_lines : OnlyLines c [] r (set r (259680 + c) 0)
+  unfolding none
+  forgot_lines = record { here = lines_none; there = lines_left }
+
   pub forgot_deals : (s : State) (b : Book) (n : Now) → Desk r s → Desk (set r (259680 + c) 0) (set_clerk c [] n (record { book = b; clerk = s.clerk }))
-  unfolding none lines_in deal_lines lines_of lines_from
-  forgot_deals s b n desk =
-      desk_set r none s b c [] n desk
-      (λ e h x. (none_there e x h, kept_lines r none e cleared.long (off_kept (259680 + c) 1 r none (3072 * e) 3072 cleared (inl (omega arith))) (none_there e x h)))
-      (record { count = none_here; lines = ap (λ m. map bare (lines_of (take 3072 (drop (3072 * c) none)) (deal_ring m))) none_here })
+  unfolding none lines_from
+  forgot_deals s b n desk = desk_set r none s b c [] n desk (λ e h x. (none_there e x h, lines_left e h x)) (record { count = none_here; lines = ap (map bare) lines_none })
 
   pub forgot_others : OnlyDeals r (set r (259680 + c) 0)
   unfolding none

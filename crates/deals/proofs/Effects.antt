@@ -12,7 +12,8 @@ use Rattle.deals.specs.Deals.{Book, Said, leaves, marks_of}
 use Rattle.deals.specs.Rows.{scan_line, line_for, then_lines, lines_from, bare}
 use Rattle.deals.specs.Tables.{lines_in, Keeps}
 use Rattle.deals.specs.Writes.{Write, onto, writes_then, marks_then, writes_of, writes_at, effect, write_in, writes_in}
-use Rattle.deals.proofs.Backs.{is_mark, back_on, bare_mark}
+use Rattle.lines.proofs.Going.{is_mark}
+use Rattle.deals.proofs.Backs.{back_on, bare_mark}
 use Rattle.deals.proofs.Writes.{leaves_is, marks_onto}
 
 -- the writes that were in effect at each mark, after the writes a

@@ -16,7 +16,7 @@ is_quiet Quiet = Unit {0}
 is_quiet (Under o g) = ⊥
 is_quiet (Over o a g) = ⊥
 
-quiet≢under : (o : Op) (g : ℕ) → Quiet ≡ Under o g → ⊥
+pub quiet≢under : (o : Op) (g : ℕ) → Quiet ≡ Under o g → ⊥
 unfolding is_quiet
 quiet≢under o g e = subst is_quiet e tt
 

@@ -6,7 +6,7 @@ use Rattle.locks.specs.declared.graph.Pick.{Pick}
 use Rattle.deals.specs.declared.Op.{Op}
 use Rattle.deals.specs.declared.Answer.{Answer}
 use Rattle.deals.specs.Deals.{Book, Said, State, Now, Quiet, Under, Over, set_clerk, aged, older}
-use Rattle.deals.specs.Tables.{count_at, op_at, waiting_in, order_of, is_under, Off, Sound, Desk, Asks, OnlyDeals, OnlyOrder, OnlyAsk}
+use Rattle.deals.specs.Tables.{count_at, op_at, waiting_in, order_of, is_under, Off, SameLines, Sound, Desk, Asks, OnlyDeals, OnlyOrder, OnlyAsk}
 use Rattle.deals.specs.LineUps.{LineUp, TablesHold, Served, Picked}
 use Rattle.deals.proofs.Offs.{off_kept, kept_op, kept_lines, kept_order, kept_rest}
 use Rattle.deals.proofs.Desks.{keeps_same, desk_like}
@@ -24,7 +24,8 @@ only_ask r t c i l f =
         few = λ k h. let g : k < waiting_in r = omega (arith, waiting_same) in rw (f.same (259712 + k) (inr (omega arith))) (i.few k g);
       };
       ops = λ e h x. kept_op r t e (off_kept (259584 + 3 * c) 3 r t (259584 + 3 * e) 3 f (elim (cases_lt e c) [ inl g ↦ inl (omega arith) | inr g ↦ inr (elim (cases_eq e c) [ inl q ↦ absurd (x q) | inr q ↦ omega arith ]) ]));
-      deals = λ s d e h. keeps_same r t e (s.clerk e).deal (count_same e h) (kept_lines r t e f.long (off_kept (259584 + 3 * c) 3 r t (3072 * e) 3072 f (inl (omega arith))) (count_same e h)) (d e h);
+      lines = lines_same;
+      deals = λ s d e h. keeps_same r t e (s.clerk e).deal (count_same e h) (lines_same e h) (d e h);
       order = kept_order r t f.long (off_kept (259584 + 3 * c) 3 r t 259712 33 f (inr (omega arith)));
       waiting = waiting_same;
       rest = kept_rest r t f.long (off_kept (259584 + 3 * c) 3 r t 98304 161280 f (inl (omega arith)));
@@ -32,6 +33,9 @@ only_ask r t c i l f =
   where
     count_same : (e : ℕ) → e < 32 → count_at t e ≡ count_at r e
     count_same e h = f.same (259680 + e) (inr (omega arith))
+
+    lines_same : SameLines r t
+    lines_same e h = kept_lines r t e f.long (off_kept (259584 + 3 * c) 3 r t (3072 * e) 3072 f (inl (omega arith))) (count_same e h)
 
     waiting_same : waiting_in t ≡ waiting_in r
     waiting_same = f.same 259744 (inr (omega arith))

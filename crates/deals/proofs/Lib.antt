@@ -21,3 +21,15 @@ pub mod Effects
 pub mod Refusing
 pub mod Clearing
 pub mod Drives
+pub mod Pairing
+pub mod Telling
+pub mod Steps
+pub mod Allowed
+pub mod Sitting
+pub mod Seating
+pub mod Turning
+pub mod Keeping
+pub mod Answering
+pub mod Sums
+pub mod Looking
+pub mod Plain

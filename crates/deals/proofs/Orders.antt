@@ -6,7 +6,7 @@ use Rattle.std.proofs.lemmas.List.{get_or-set_same, get_or-take, get_or-drop, le
 use Rattle.std.proofs.Math.Seq.{take-set-lt}
 use Rattle.std.proofs.lemmas.List.Edits.{length-remove, get_or-remove_below, get_or-remove_above}
 use Rattle.std.proofs.lemmas.Bool.{cases_lt}
-use Rattle.deals.specs.Tables.{count_at, waiting_in, order_of, Off, Sound, OnlyOrder}
+use Rattle.deals.specs.Tables.{count_at, waiting_in, order_of, Off, SameLines, Sound, OnlyOrder}
 use Rattle.deals.proofs.Offs.{Kept, set_off, mid_off, mid_at, off_wider, off_kept, kept_then, kept_part, kept_lines, kept_op, kept_rest}
 use Rattle.deals.proofs.Desks.{keeps_same}
 
@@ -70,6 +70,9 @@ module _ (r then : List ℕ) (m : ℕ) (q : List ℕ) (i : Sound r) (stood : Off
   count_same : (e : ℕ) → e < 32 → count_at last e ≡ count_at r e
   count_same e h = elsewhere (259680 + e) 1 (omega arith) (259680 + e) (omega arith) (omega arith)
 
+  lines_same : SameLines r last
+  lines_same c h = kept_lines r last c same_length (elsewhere (3072 * c) 3072 (omega arith)) (count_same c h)
+
   word_is : (k : ℕ) → k < m → get_or last (259712 + k) 0 ≡ get_or q k 0
   word_is k h =
       sym (get_or-drop 259712 last k 0) ∙ sym (get_or-take 32 (drop 259712 last) k 0 (omega arith)) ∙ ap (λ x. get_or x k 0) part_is ∙ sym (get_or-take m (take 32 (drop 259712 then)) k 0 h) ∙ ap (λ x. get_or x k 0) is
@@ -90,7 +93,8 @@ module _ (r then : List ℕ) (m : ℕ) (q : List ℕ) (i : Sound r) (stood : Off
     record {
       sound = sound_last;
       ops = λ c h. kept_op r last c (elsewhere (259584 + 3 * c) 3 (omega arith));
-      deals = λ s d c h. keeps_same r last c (s.clerk c).deal (count_same c h) (kept_lines r last c same_length (elsewhere (3072 * c) 3072 (omega arith)) (count_same c h)) (d c h);
+      lines = lines_same;
+      deals = λ s d c h. keeps_same r last c (s.clerk c).deal (count_same c h) (lines_same c h) (d c h);
       rest = kept_rest r last same_length (elsewhere 98304 161280 (omega arith));
     },
   )

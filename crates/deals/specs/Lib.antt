@@ -13,3 +13,7 @@ pub mod Examples
 pub mod Stub
 pub mod Drives
 pub mod Ages
+pub mod Paired
+pub mod Told
+pub mod Holds
+pub mod Sits

@@ -6,6 +6,7 @@ use Rattle.deals.specs.declared.Answer.{Answer}
 use Rattle.deals.specs.declared.Answer.TheVariants.{Done, Missing, Word, Pair, Point, No, Full, Clash}
 use Rattle.lines.specs.declared.line.Line.{Line}
 use Rattle.lines.specs.declared.line.Line.TheVariants.{Idle, Wrote, Cleared, Stale, Read, Scanned, Marked}
+pub use Rattle.lines.specs.Lines.{bare}
 use Rattle.lines.specs.Marks.{backed}
 use Rattle.locks.specs.declared.way.Want.{Want}
 use Rattle.locks.specs.declared.way.Want.TheVariants.{Nothing, Look, Write, Scan}
@@ -33,6 +34,16 @@ line_for (Back j) a = Idle
 line_for Commit a = Idle
 line_for Undo a = Idle
 
+-- a drop's line with the tree's first key above its own
+abbrev pub with_above : Option ℕ → Line → Line
+with_above a Idle = Idle
+with_above a (Wrote k x) = Wrote k x
+with_above a (Cleared k s) = Cleared k a
+with_above a (Stale k) = Stale k
+with_above a (Read k) = Read k
+with_above a (Scanned k f) = Scanned k f
+with_above a Marked = Marked
+
 -- the lines as what is gone back over has no effect any more
 abbrev pub gone_by : Op → List Line → List Line
 gone_by (Get k) ls = ls
@@ -54,16 +65,6 @@ lines_from ls (s ∷ ss) = lines_from (then_lines s ls) ss
 -- THE LINES OF A DEAL
 abbrev pub said_lines : List Said → List Line
 said_lines ss = lines_from [] ss
-
--- a line but for what it says of the tree
-abbrev pub bare : Line → Line
-bare Idle = Idle
-bare (Wrote k x) = Wrote k x
-bare (Cleared k s) = Cleared k None
-bare (Stale k) = Stale k
-bare (Read k) = Read k
-bare (Scanned k f) = Scanned k f
-bare Marked = Marked
 
 -- WHAT IS ASKED, as what it touches; found: what a Next would find
 abbrev pub want_of : Op → Option ℕ → Want

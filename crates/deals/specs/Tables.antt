@@ -44,6 +44,15 @@ pub record Off (a n : ℕ) (room then : List ℕ) : Type 0 where
   pub long : length then ≡ length room
   pub same : (i : ℕ) → (i < a) ⊎ (a + n ≤ i) → slice_index then i ≡ slice_index room i
 
+-- no deal has other lines
+abbrev pub SameLines : List ℕ → List ℕ → Type 0
+SameLines room then = (c : ℕ) → c < 32 → lines_in then c ≡ lines_in room c
+
+-- the deal of clerk c has the lines ls, and no other deal has other lines
+pub record OnlyLines (c : ℕ) (ls : List Line) (room then : List ℕ) : Type 0 where
+  pub here : lines_in then c ≡ ls
+  pub there : (e : ℕ) → e < 32 → (e ≢ c) → lines_in then e ≡ lines_in room e
+
 -- what code that reads the tables must know, whatever the deals are
 pub record Sound (room : List ℕ) : Type 0 where
   pub wide : length room ≡ 262144
@@ -81,6 +90,7 @@ Asks room s = (c : ℕ) → c < 32 → is_under (s.clerk c).now' ≡ true → (g
 pub record OnlyOrder (room then : List ℕ) : Type 0 where
   pub sound : Sound then
   pub ops : (c : ℕ) → c < 32 → op_at then c ≡ op_at room c
+  pub lines : SameLines room then
   pub deals : (s : State) → Desk room s → Desk then s
   pub rest : rest_of then ≡ rest_of room
 
@@ -88,6 +98,7 @@ pub record OnlyOrder (room then : List ℕ) : Type 0 where
 pub record OnlyAsk (c : ℕ) (room then : List ℕ) : Type 0 where
   pub sound : Sound then
   pub ops : (e : ℕ) → e < 32 → (e ≢ c) → op_at then e ≡ op_at room e
+  pub lines : SameLines room then
   pub deals : (s : State) → Desk room s → Desk then s
   pub order : order_of then ≡ order_of room
   pub waiting : waiting_in then ≡ waiting_in room

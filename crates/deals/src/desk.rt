@@ -1,10 +1,10 @@
 // The clerks' deals, as lines in the room.
-ghost use Rattle.std.specs.Prelude.{◌≡◌, ◌+◌, ◌*◌, ◌<◌, List, [], ◌∷◌, ◌++◌, map, length};
+ghost use Rattle.std.specs.Prelude.{◌≡◌, ◌+◌, ◌*◌, ◌<◌, [], ◌∷◌, ◌++◌, length};
 ghost use Rattle.lines.specs.Rings.{lines_of};
 ghost use Rattle.lines.specs.Tables.{deal_ring};
-ghost use Rattle.deals.specs.Deals.{Said, State, Now, Book, set_clerk};
-ghost use Rattle.deals.specs.Rows.{line_for, said_lines, bare};
-ghost use Rattle.deals.specs.Tables.{Desk, OnlyDeals, count_at};
+ghost use Rattle.deals.specs.Deals.{State, Now, Book, set_clerk};
+ghost use Rattle.deals.specs.Rows.{line_for, with_above, gone_by};
+ghost use Rattle.deals.specs.Tables.{Desk, OnlyDeals, OnlyLines, count_at, lines_in};
 ghost use Rattle.deals.specs.Loans.{SameRoom};
 
 use super::layout::COUNTS_AT;
@@ -26,7 +26,7 @@ pub struct Telling {
 
 // The line that it leaves.
 impl From<Telling> for Line {
-    ghost from_gives = { λ said line. bare line ≡ line_for said.op said.answer };
+    ghost from_gives = { λ said line. line ≡ with_above said.above (line_for said.op said.answer) };
 
     fn from(said: Telling) -> Line {
         match (said.op, said.answer) {
@@ -44,7 +44,7 @@ impl From<Telling> for Line {
 // One more is told in a deal whose n lines stand in these words. It's their part of the room and not all of it, as in `lines::own`: what is promised of the other words is that they stay, and not only which lines they are.
 fn note(words: &mut [u64], n: usize, said: Telling)
     requires { (length words.old ≡ 3072) × (n < 1024) }
-    ensures { (ss : List Said) → map bare (lines_of words.old (deal_ring n)) ≡ said_lines ss → map bare (lines_of words.new (deal_ring (n + 1))) ≡ said_lines (ss ++ record { op = said.op; told = said.answer } ∷ []) }
+    ensures { lines_of words.new (deal_ring (n + 1)) ≡ gone_by said.op (lines_of words.old (deal_ring n)) ++ with_above said.above (line_for said.op said.answer) ∷ [] }
 {
     let ring = deal_ring(n);
     if let Op::Back(j) = said.op {
@@ -59,6 +59,7 @@ impl<'a> TablesMut<'a> {
         requires { count_at self.old.room.now c < 1024 }
         ensures lent { SameRoom self.old self.new }
         ensures deals { (s : State) (n : Now) → Desk self.old.room.now s → Desk self.new.room.now (set_clerk c ((s.clerk c).deal ++ record { op = said.op; told = said.answer } ∷ []) n s) }
+        ensures lines { OnlyLines c (gone_by said.op (lines_in self.old.room.now c) ++ with_above said.above (line_for said.op said.answer) ∷ []) self.old.room.now self.new.room.now }
         ensures others { OnlyDeals self.old.room.now self.new.room.now }
     {
         let room = &mut *self.room;
@@ -73,6 +74,7 @@ impl<'a> TablesMut<'a> {
     pub(crate) fn forget(&mut self, c: Clerk)
         ensures lent { SameRoom self.old self.new }
         ensures deals { (s : State) (b : Book) (n : Now) → Desk self.old.room.now s → Desk self.new.room.now (set_clerk c [] n (record { book = b; clerk = s.clerk })) }
+        ensures lines { OnlyLines c [] self.old.room.now self.new.room.now }
         ensures others { OnlyDeals self.old.room.now self.new.room.now }
     {
         self.room[COUNTS_AT + c.index()] = 0;

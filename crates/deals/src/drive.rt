@@ -6,6 +6,7 @@ use super::{Gone, Pages};
 use store::Device;
 
 /// Lent for as long as the store works on it.
+#[derive(Drop)]
 pub struct Drive<'a, D> {
     pub disk: &'a mut D,
 }

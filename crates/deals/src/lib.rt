@@ -4,13 +4,17 @@
 pub mod asked;
 pub mod desk;
 pub mod drive;
+pub mod engine;
 pub mod layout;
+pub mod lives;
 pub mod office;
 pub mod order;
+pub mod paired;
 pub mod pick;
 pub mod refusals;
 pub mod serving;
 pub mod tables;
+pub mod tally;
 
 ghost use Rattle.std.specs.Prelude.{◌≡◌, ℕ, ◌+◌, ◌*◌, ◌<◌, ◌≤◌, Bool, true, false, T, List, [], ◌∷◌, length, is_ok};
 ghost use Rattle.deals.specs.Disk.{Disk, MayAsk, Reading, Writing, Syncing, Back, Blank, allowed};

@@ -2,7 +2,8 @@
 ghost use Rattle.std.specs.Prelude.{◌≡◌, ℕ, ◌<◌, true, [], ◌∷◌, ◌++◌, length};
 ghost use Rattle.deals.specs.Deals.{State, Book, Quiet, Under, set_clerk};
 ghost use Rattle.deals.specs.Promise.{can};
-ghost use Rattle.deals.specs.Tables.{count_at, waiting_in, rest_of};
+ghost use Rattle.deals.specs.Rows.{line_for, with_above, gone_by};
+ghost use Rattle.deals.specs.Tables.{SameLines, OnlyLines, count_at, lines_in, waiting_in, rest_of};
 ghost use Rattle.deals.specs.LineUps.{TablesHold, Serves};
 ghost use Rattle.deals.specs.Loans.{OnlyTables};
 ghost use Rattle.deals.specs.Ages.{IdleTurn, TurnGoes, OneTold, StaysYoung};
@@ -37,6 +38,7 @@ impl<'a> TablesMut<'a> {
     pub fn take_in(&mut self, who: Clerk, o: Op)
         requires { waiting_in self.old.room.now < 32 }
         ensures only { OnlyTables self.old self.new }
+        ensures lines { SameLines self.old.room.now self.new.room.now }
         ensures holds { (s : State) → TablesHold can true self.old.room.now s → (s.clerk who).now' ≡ Quiet → TablesHold can true self.new.room.now (set_clerk who (s.clerk who).deal (Under o 0) s) }
     {
         self.write_op(who, o);
@@ -48,6 +50,7 @@ impl<'a> TablesMut<'a> {
         requires picked { pick.place < waiting_in self.old.room.now }
         requires short { count_at self.old.room.now pick.who < 1024 }
         ensures only { OnlyTables self.old self.new }
+        ensures lines { OnlyLines pick.who (gone_by said.op (lines_in self.old.room.now pick.who) ++ with_above said.above (line_for said.op said.answer) ∷ []) self.old.room.now self.new.room.now }
         ensures holds { (s : State) → Serves can self.old.room.now self.new.room.now s pick s.book ((s.clerk pick.who).deal ++ record { op = said.op; told = said.answer } ∷ []) said.op said.answer }
     {
         self.tell(pick.who, said);
@@ -58,6 +61,7 @@ impl<'a> TablesMut<'a> {
     pub fn turn_away(&mut self, pick: Pick)
         requires { pick.place < waiting_in self.old.room.now }
         ensures only { OnlyTables self.old self.new }
+        ensures lines { SameLines self.old.room.now self.new.room.now }
         ensures holds { (s : State) (o : Op) (a : Answer) → Serves can self.old.room.now self.new.room.now s pick s.book (s.clerk pick.who).deal o a }
     {
         self.leave(pick.place);
@@ -67,6 +71,7 @@ impl<'a> TablesMut<'a> {
     fn end(&mut self, pick: Pick)
         requires { pick.place < waiting_in self.old.room.now }
         ensures only { OnlyTables self.old self.new }
+        ensures lines { OnlyLines pick.who [] self.old.room.now self.new.room.now }
         ensures holds { (s : State) (b : Book) (o : Op) (a : Answer) → Serves can self.old.room.now self.new.room.now s pick b [] o a }
     {
         self.forget(pick.who);
@@ -77,6 +82,7 @@ impl<'a> TablesMut<'a> {
     pub fn take_apart(&mut self, pick: Pick)
         requires { pick.place < waiting_in self.old.room.now }
         ensures only { OnlyTables self.old self.new }
+        ensures lines { OnlyLines pick.who [] self.old.room.now self.new.room.now }
         ensures holds { (s : State) (o : Op) (a : Answer) → Serves can self.old.room.now self.new.room.now s pick s.book [] o a }
     {
         self.end(pick);
@@ -86,6 +92,7 @@ impl<'a> TablesMut<'a> {
     pub fn finish<R: Receipt>(&mut self, pick: Pick, receipt: R)
         requires { pick.place < waiting_in self.old.room.now }
         ensures only { OnlyTables self.old self.new }
+        ensures lines { OnlyLines pick.who [] self.old.room.now self.new.room.now }
         ensures holds { (s : State) (b : Book) (o : Op) (a : Answer) → Serves can self.old.room.now self.new.room.now s pick b [] o a }
     {
         receipt.spend();

@@ -1,9 +1,9 @@
 // The clerks' tables in the room, lent for as long as they are read or changed.
-ghost use Rattle.std.specs.Prelude.{◌≡◌, ◌<◌, ◌≤◌};
+ghost use Rattle.std.specs.Prelude.{◌≡◌, ℕ, ◌<◌, ◌≤◌, slice_index};
 ghost use Rattle.deals.specs.Tables.{Sound, count_at, lines_in};
 
 use super::layout::COUNTS_AT;
-use clerk::Clerk;
+use clerk::{CLERKS, Clerk};
 use lines::own::lines_of;
 use lines::ring::Lines;
 
@@ -35,6 +35,17 @@ impl<'a> Tables<'a> {
         ensures few { result ≤ 1024 }
     {
         self.room[COUNTS_AT + c.index()] as usize
+    }
+
+    /// How many lines each deal has.
+    pub fn counts(&self) -> [usize; CLERKS]
+        ensures { (c : ℕ) → c < 32 → slice_index result c ≡ count_at self.now.room.now c }
+    {
+        let mut counts = [0; CLERKS];
+        for c in 0..CLERKS {
+            counts[c] = self.room[COUNTS_AT + c] as usize;
+        }
+        counts
     }
 
     // The lines of the clerk's deal.

@@ -1,10 +1,10 @@
-use Rattle.std.proofs.Common.{◌≡◌, ℕ, ◌+◌, List, [], ◌∷◌, ◌++◌, map, sym, ap, ◌∙◌}
+use Rattle.std.proofs.Common.{◌≡◌, ℕ, ◌+◌, List, [], ◌∷◌, ◌++◌, sym, ap, ◌∙◌}
 use Rattle.lines.specs.declared.line.Line.{Line}
 use Rattle.lines.specs.declared.ring.Ring.{Ring}
 use Rattle.lines.specs.Rings.{lines_of}
 use Rattle.lines.specs.Tables.{deal_ring}
-use Rattle.deals.specs.Rows.{gone_by, bare}
-use Rattle.deals.proofs.Backs.{gone_none, gone_back, bare_push, ring_is}
+use Rattle.deals.specs.Rows.{gone_by}
+use Rattle.deals.proofs.Backs.{gone_none, gone_back, ring_is}
 use Rattle.deals.proofs.desk.note.Goals as goal
 use Rattle.deals.proofs.desk.note.Goals.{in-Back, in_default}
 
@@ -19,9 +19,9 @@ went c =
     ]
 
 pub returns : goal.returns
-returns c ss e =
+returns c =
     let d = c.deal_ring-ring.ensures in
     let grown = c.push.ensures.grown in
     let ring : c.push.result ≡ deal_ring (c.args.n + 1) = ring_is c.push.result (c.args.n + 1) (grown.0 ∙ ap (λ (x : Ring). x.cap) d) (grown.1.0 ∙ ap (λ (x : Ring). x.start) d) (grown.1.1 ∙ ap (λ (x : Ring). x.count + 1) d) in
     let pushed = rw (ring, d) at (c.push.ensures.lines ∙ ap (λ (ls : List Line). ls ++ c.into.result ∷ []) (went c)) in
-    ap (map bare) pushed ∙ bare_push (lines_of c.args.words.now (deal_ring c.args.n)) ss (record { op = c.args.said.op; told = c.args.said.answer }) c.into.result e c.into.ensures
+    pushed ∙ ap (λ (l : Line). gone_by c.args.said.op (lines_of c.args.words.now (deal_ring c.args.n)) ++ l ∷ []) c.into.ensures

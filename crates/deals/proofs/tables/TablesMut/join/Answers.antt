@@ -3,9 +3,6 @@ use Rattle.deals.specs.Tables.{order_of}
 use Rattle.deals.proofs.Orders.{joined}
 use Rattle.deals.proofs.tables.TablesMut.join.Goals as goal
 
-pub invariant_of-self : goal.invariant_of-self
-invariant_of-self c = record { sound = rw c.from.ensures (joined c.args.self.now.room.now c.number.result c.args.self.now.sound c.number.ensures.low c.requires).1.sound }
-
 pub returns : goal.returns
 returns c =
     let stood = joined c.args.self.now.room.now c.number.result c.args.self.now.sound c.number.ensures.low c.requires in

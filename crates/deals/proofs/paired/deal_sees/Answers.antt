@@ -1,0 +1,5 @@
+use Rattle.deals.proofs.Telling.{get_told, drop_told, next_told, leaves_told}
+use Rattle.deals.proofs.paired.deal_sees.Goals as goal
+
+pub returns : goal.returns
+returns c = record { get = get_told; drop = drop_told; next = next_told; leaves = leaves_told }

@@ -1,5 +1,0 @@
-use Rattle.paired.proofs.Pairing.{put_is, drop_is, find_is, next_is, onto_is}
-use Rattle.paired.proofs.book_is_pairs.Goals as goal
-
-pub returns : goal.returns
-returns c = record { put = put_is; drop = drop_is; find = find_is; next = next_is; onto = onto_is }

@@ -1,5 +1,0 @@
-use Rattle.paired.proofs.Telling.{get_told, drop_told, next_told, leaves_told}
-use Rattle.paired.proofs.deal_sees.Goals as goal
-
-pub returns : goal.returns
-returns c = record { get = get_told; drop = drop_told; next = next_told; leaves = leaves_told }
