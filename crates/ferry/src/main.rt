@@ -1,7 +1,7 @@
 // Plays a script from standard input on a disk in memory.
 #![tactic(auto)]
 
-use deals::Power;
+use deals::{Office, Power};
 use lines::tables::ROOM_WORDS;
 use memdisk::{Due, Entry, MemDisk};
 use pages::PAGE_WORDS;
@@ -40,7 +40,7 @@ impl Sink for Printer<'_> {
 #[derive(Drop)]
 struct Script<'a, D, S> {
     stage: Stage<'a, D, S>,
-    player: Player,
+    player: Player<Office>,
     line: LineBuffer,
     // the lines that came before this one
     past: u64,
@@ -97,7 +97,7 @@ fn main(rt: HostRuntime) -> io::Result<()> {
         result: Ok(()),
     };
     let mut stage = Stage::new(&mut disk, room.as_mut_slice(), &mut printer);
-    let Some(player) = Player::begin(&mut stage) else {
+    let Some(player) = Player::<Office>::begin(&mut stage) else {
         // Nothing is played where the power went in each opening.
         return printer.result;
     };

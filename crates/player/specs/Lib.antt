@@ -1,3 +1,4 @@
 pub mod Loans
+pub mod Playing
 pub mod Seating
 pub mod Turning

@@ -1,6 +1,6 @@
 -- Who has a deal, and who waits for an answer.
 -- Assumes nothing.
-use Rattle.std.specs.Prelude.{ℕ, Bool, true, false, cond, List, replicate, nat_lt, slice_index_or, slice_set}
+use Rattle.std.specs.Prelude.{◌≡◌, ℕ, ◌<◌, Option, Some, None, Bool, true, false, cond, List, replicate, nat_lt, slice_index_or, slice_set}
 use Rattle.deals.specs.declared.Op.{Op}
 use Rattle.deals.specs.Deals.{ends}
 use Rattle.deals.specs.declared.Answer.{Answer}
@@ -38,3 +38,8 @@ told who a seats = cond (nat_lt who 32) (slice_set seats who (after_answer (slic
 
 abbrev pub nobody : List Seat
 nobody = replicate 32 Free
+
+-- the first clerk who has no deal and nothing under way; none where there is no such clerk
+abbrev pub FirstFree : List Seat → Option ℕ → Type 0
+FirstFree seats None = (k : ℕ) → k < 32 → is_free (slice_index_or seats k Free) ≡ false
+FirstFree seats (Some w) = (w < 32) × (is_free (slice_index_or seats w Free) ≡ true) × ((k : ℕ) → k < w → is_free (slice_index_or seats k Free) ≡ false)

@@ -1,11 +1,15 @@
 // The office's lives: each begins with an opening and ends with a cut.
-ghost use Rattle.std.specs.Prelude.{◌≡◌, ℕ, ◌+◌, ◌<◌, ◌≤◌, false, IfSome, is_ok, nat_le};
+ghost use Rattle.std.specs.Prelude.{◌≡◌, ℕ, ◌+◌, ◌<◌, ◌≤◌, List, false, IfOk, IfSome, None, is_ok, nat_le};
+ghost use Rattle.std.specs.Option.{option_map, option_map_or};
 ghost use Rattle.player.specs.Loans.{SameLoans};
+ghost use Rattle.player.specs.Seating.{nobody};
+ghost use Rattle.player.specs.Playing.{Opens};
 
+use crate::engine::Engine;
 use crate::sink::Sink;
 use crate::stage::Stage;
 use clerk::Clerk;
-use deals::{Answer, Gone, Office, Op, Power, open};
+use deals::{Answer, Gone, Op, Power};
 use script::line::TURNS;
 
 // There are fewer lives than 2^24. That turns have the same bound is chance.
@@ -22,26 +26,29 @@ const ASKS_IN_A_TURN: u64 = 512;
 
 /// The office in one of its lives, the first being 1, and the turns that it had in it.
 #[derive(Drop)]
-pub struct Life {
-    office: Office,
+pub struct Life<O> {
+    office: O,
     number: u64,
     turns: u64,
     ghost few: { (number ≤ 16777215) × (turns ≤ 16777215) },
 }
 
 impl<D: Power, S> Stage<'_, D, S> {
-    fn open_office(&mut self) -> Result<Office, Gone>
+    fn open_office<O: Engine>(&mut self) -> Result<O, Gone>
+        ensures opens { IfOk result O.opened }
+        ensures out { self.new.out.now ≡ self.old.out.now }
         ensures gone { is_ok result ≡ false → (D.disk self.new.disk.now).on ≡ false }
         ensures lent { SameLoans self.old self.new }
     {
         self.disk.allow(ASKS_TO_OPEN);
-        open(self.disk, self.room)
+        O::open(self.disk, self.room)
     }
 }
 
 impl<D: Power, S: Sink> Stage<'_, D, S> {
     /// The life after so many; a later one where the power goes while it opens. None where it was the last.
-    pub fn next_life(&mut self, past: u64) -> Option<Life>
+    pub fn next_life<O: Engine>(&mut self, past: u64) -> Option<Life<O>>
+        ensures played { Opens O.Engine S.Sink past (option_map_or (λ life. life.number) result 16777215) (option_map (λ life. life.office) result) self.old.out.now self.new.out.now }
         ensures later { IfSome result (λ life. (past < life.number) × (life.turns ≡ 0)) }
         ensures lent { SameLoans self.old self.new }
     {
@@ -62,7 +69,7 @@ impl<D: Power, S: Sink> Stage<'_, D, S> {
     }
 }
 
-impl Life {
+impl<O: Engine> Life<O> {
     pub fn number(&self) -> u64
         ensures { result ≡ self.now.number }
     {
@@ -78,6 +85,7 @@ impl Life {
 
     /// Who asks and what stay apart, as the office takes them.
     pub fn ask(&mut self, room: &mut [u64], who: Clerk, op: Op)
+        ensures asked { O.asked self.old.office who op self.new.office }
         ensures number { self.new.number ≡ self.old.number }
         ensures turns { self.new.turns ≡ self.old.turns }
     {
@@ -91,6 +99,7 @@ impl Life {
         room: &mut [u64],
     ) -> Result<Option<(u32, Answer)>, Gone>
         requires { self.old.turns < 16777215 }
+        ensures turned { O.turned self.old.office result self.new.office }
         ensures number { self.new.number ≡ self.old.number }
         ensures turns { self.new.turns ≡ self.old.turns + 1 }
         ensures gone { is_ok result ≡ false → (D.disk d.new).on ≡ false }

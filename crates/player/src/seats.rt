@@ -1,6 +1,6 @@
 // Who has a deal, and who waits for an answer.
-ghost use Rattle.std.specs.Prelude.{◌≡◌, ℕ, ◌<◌, Bool, true, false, MatchOption, slice_index_or};
-ghost use Rattle.player.specs.Seating.{is_asked, is_free, is_dealing, after_answer, asked, told, nobody};
+ghost use Rattle.std.specs.Prelude.{◌≡◌, slice_index_or};
+ghost use Rattle.player.specs.Seating.{is_asked, is_dealing, after_answer, asked, told, nobody, FirstFree};
 
 use clerk::{CLERKS, Clerk};
 use deals::{Answer, Op};
@@ -83,7 +83,7 @@ impl Seats {
 
     /// The first clerk who has no deal and nothing under way.
     pub fn first_free(&self) -> Option<Clerk>
-        ensures { MatchOption result ((k : ℕ) → k < 32 → is_free (slice_index_or self.now k Seat.Free) ≡ false) (λ w. (w < 32) × (is_free (slice_index_or self.now w Seat.Free) ≡ true) × ((k : ℕ) → k < w → is_free (slice_index_or self.now k Seat.Free) ≡ false)) }
+        ensures { FirstFree self.now result }
     {
         let place = self
             .list

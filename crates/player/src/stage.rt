@@ -3,9 +3,10 @@ ghost use Rattle.std.specs.Prelude.{◌≡◌, false};
 ghost use Rattle.deals.specs.Disk.{Back};
 ghost use Rattle.script.specs.declared.Output.TheVariants.{Cut};
 ghost use Rattle.player.specs.Loans.{SameLoans};
+ghost use Rattle.player.specs.Playing.{SaysTold};
 
 use crate::sink::Sink;
-use deals::Power;
+use deals::{Answer, Power};
 use script::Output;
 
 /// The disk, the room in memory, and where what is printed goes. All three are lent.
@@ -22,6 +23,19 @@ impl<'a, D, S> Stage<'a, D, S> {
         ensures { (result.disk ≡ disk.entry) × (result.room ≡ room.entry) × (result.out ≡ out.entry) }
     {
         Stage { disk, room, out }
+    }
+}
+
+impl<D, S: Sink> Stage<'_, D, S> {
+    /// What a turn told is printed.
+    pub fn print(&mut self, told: Option<(u32, Answer)>)
+        ensures told { SaysTold S.Sink told self.old.out.now self.new.out.now }
+        ensures disk { self.new.disk.now ≡ self.old.disk.now }
+        ensures lent { SameLoans self.old self.new }
+    {
+        if let Some((who, answer)) = told {
+            self.out.put(Output::Told { who, answer });
+        }
     }
 }
 
