@@ -3,8 +3,8 @@ ghost use Rattle.std.specs.Prelude.{◌≡◌, ℕ, ◌+◌, ◌<◌, ◌≤◌,
 ghost use Rattle.store.specs.Store.{cache};
 ghost use Rattle.ledger.specs.Ledger.{Pairs, part_of, now_pairs, Stands, Stays, OnlyPart};
 
-use crate::{Ledger, PART_AT, PART_END, part};
-use store::{Device, Gone};
+use crate::{Ledger, PART_AT, PART_END};
+use store::{Device, Gone, in_slice};
 
 impl Ledger {
     /// The imaged batch is taken: the tree on the disk has what was worked into it, and that is off the durable queue.
@@ -20,7 +20,7 @@ impl Ledger {
         ensures room { OnlyPart room.old room.new }
         ensures tied { D.tie d.new ≡ D.tie d.old }
     {
-        let lasted = part::take_batch(&mut self.store, d, &mut room[PART_AT..PART_END])?;
+        let lasted = in_slice::take_batch(&mut self.store, d, &mut room[PART_AT..PART_END])?;
         lasted.spend();
         Ok(())
     }
@@ -38,6 +38,6 @@ impl Ledger {
         ensures room { room.new ≡ room.old }
         ensures tied { D.tie d.new ≡ D.tie d.old }
     {
-        part::image(&mut self.store, d, &mut room[PART_AT..PART_END])
+        in_slice::image(&mut self.store, d, &mut room[PART_AT..PART_END])
     }
 }

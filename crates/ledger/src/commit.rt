@@ -12,7 +12,7 @@ use crate::{Ledger, PART_AT, PART_END, part};
 use lines::line::Line;
 use lines::own::lines_of;
 use store::head::Record;
-use store::{Device, Gone, Lasted, Store};
+use store::{Device, Gone, Lasted, Store, in_slice};
 use view::commit::take_in;
 use view::seen::View;
 
@@ -57,7 +57,7 @@ fn append_line<D: Device>(
     ensures tied { D.tie d.new ≡ D.tie d.old }
 {
     match record_by(line) {
-        Some(item) => part::append(store, d, &mut room[PART_AT..PART_END], item),
+        Some(item) => in_slice::append(store, d, &mut room[PART_AT..PART_END], item),
         None => Ok(()),
     }
 }

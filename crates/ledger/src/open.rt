@@ -7,15 +7,15 @@ ghost use Rattle.pager.specs.Volume.{pairs_in};
 ghost use Rattle.ledger.specs.Ledger.{Pairs, part_of, line_of, Rests, Stands, Cut, Aside};
 ghost use Rattle.ledger.specs.Opens.{Raised, Queued, RaisedOr, records_at, told, open_asks};
 
-use crate::open_part::{load_queue_page, loaded_record, next_above, queue_pages};
-use crate::{Ledger, PART_AT, PART_END, open_part};
+use crate::open_part::{loaded_record, next_above, queue_pages};
+use crate::{Ledger, PART_AT, PART_END};
 use lines::line::Line;
 use lines::queue::{add_record, records_of, set_record};
 use lines::ring::Ring;
 use lines::tables::QUEUE_LINES;
 use std::ops::Range;
 use store::head::Record;
-use store::{Device, Gone, Store};
+use store::{Device, Gone, Store, in_slice};
 
 // A record as a line that knows nothing of the tree.
 fn line_of(item: Record) -> Line
@@ -59,7 +59,7 @@ fn load_queue<D: Device>(store: &Store, d: &mut D, room: &mut [u64]) -> Result<R
         count: 0,
     };
     for i in 0..queue_pages(&room[PART_AT..PART_END]) {
-        let places = load_queue_page(store, d, &mut room[PART_AT..PART_END], i)?;
+        let places = in_slice::load_queue_page(store, d, &mut room[PART_AT..PART_END], i)?;
         queue = add_page(room, queue, places);
     }
     Ok(queue)
@@ -129,7 +129,7 @@ impl Ledger {
         ensures aside { Aside room.old room.new }
         ensures tied { D.tie d.new ≡ D.tie d.old }
     {
-        let mut store = open_part::open(d, &mut room[PART_AT..PART_END])?;
+        let mut store = in_slice::open(d, &mut room[PART_AT..PART_END])?;
         let queue = load_queue(&store, d, room)?;
         tell_queue(&mut store, d, room, queue)?;
         Ok(Ledger { store, queue })

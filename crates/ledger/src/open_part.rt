@@ -1,26 +1,12 @@
-// The store's own functions for coming up, on the slice in which its part stands, for the reason that `part` gives.
-ghost use Rattle.std.specs.Prelude.{◌≡◌, ◌+◌, ◌<◌, ◌≤◌, length, is_ok, IfOk, MatchResult};
+// What coming up reads of the store's part, on the slice in which it stands, for the reason that `store::in_slice` gives.
+ghost use Rattle.std.specs.Prelude.{◌≡◌, ◌+◌, ◌<◌, ◌≤◌, length, is_ok, IfOk};
 ghost use Rattle.store.specs.Head.{record_at};
-ghost use Rattle.store.specs.State.{Rested};
-ghost use Rattle.store.specs.Queue.{Loaded};
-ghost use Rattle.store.specs.Store.{next, scratch_of, Intact, Opened, Lost};
+ghost use Rattle.store.specs.Store.{next, scratch_of};
 ghost use Rattle.view.specs.Upkeep.{key_of, next_key};
 ghost use Rattle.pager.specs.Volume.{Paged, Ends, pairs_in};
 
-use std::ops::Range;
 use store::head::{Record, record_at};
 use store::{Device, Gone, Part, Store, part_of, scratch};
-
-// As `Store::open`.
-pub fn open<D: Device>(d: &mut D, words: &mut [u64]) -> Result<Store, Gone>
-    requires long { length words.old ≡ 62976 }
-    requires rested { Rested (D.medium d.old) }
-    requires asks { 129 ≤ (D.medium d.old).left }
-    ensures opens { MatchResult result (λ z. Opened (D.medium d.old) (D.medium d.new) words.new z) (λ _. Lost (D.medium d.old) (D.medium d.new)) }
-    ensures tied { D.tie d.new ≡ D.tie d.old }
-{
-    Store::open(d, part_of(words))
-}
 
 // The part, to be read.
 fn part_in(words: &[u64]) -> &Part
@@ -37,23 +23,6 @@ pub fn queue_pages(words: &[u64]) -> u64
     ensures { result ≡ (next words.now).full + 1 }
 {
     store::queue_pages(part_in(words))
-}
-
-// As `Store::load_queue_page`.
-pub fn load_queue_page<D: Device>(
-    store: &Store,
-    d: &mut D,
-    words: &mut [u64],
-    i: u64,
-) -> Result<Range<usize>, Gone>
-    requires long { length words.old ≡ 62976 }
-    requires intact { Intact (D.medium d.old) words.old store.now }
-    requires page { i ≤ (next words.old).full }
-    requires asks { 0 < (D.medium d.old).left }
-    ensures loads { MatchResult result (λ r. Loaded (D.medium d.old) words.old store.now i r (D.medium d.new) words.new) (λ _. Lost (D.medium d.old) (D.medium d.new)) }
-    ensures tied { D.tie d.new ≡ D.tie d.old }
-{
-    store.load_queue_page(d, part_of(words), i)
 }
 
 // Record j of the page that was read last.

@@ -1,7 +1,7 @@
 -- The parts of the lent slice, and a write to one of them seen from the others.
-use Rattle.std.proofs.Common.{◌≡◌, ℕ, ◌+◌, ◌≤◌, List, length, ◌++◌, take, drop, ap, ◌∙◌, arith, length-append, length-drop, length-take, take_at, drop_at, rules}
+use Rattle.std.proofs.Common.{◌≡◌, ℕ, List, length, ◌++◌, take, drop, ap, ◌∙◌, arith, length-append, length-drop, length-take, take_at, drop_at}
 use borrow.Rule.Slice.PartMut.{put_mid}
-use Rattle.std.proofs.lemmas.List.{places, same_lists, take_all, drop-append-le, take-append-le}
+use Rattle.std.proofs.lemmas.List.{take_all, drop-append-le, take-append-le}
 use Rattle.std.proofs.lemmas.Slice.{between-put_mid, take-put_mid_below, drop-put_mid}
 use Rattle.pages.proofs.Mid.{length_put_mid, part_below}
 use Rattle.store.specs.Head.{Head, head_of}

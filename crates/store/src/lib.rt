@@ -7,6 +7,7 @@
 mod batch;
 mod device;
 pub mod head;
+pub mod in_slice;
 mod lasting;
 mod open;
 mod part;

@@ -132,7 +132,11 @@ impl Store {
         requires intact { Intact (D.medium d.old) part.old self.now }
         requires page { i ≤ (next part.old).full }
         requires asks { 0 < (D.medium d.old).left }
+        ensures reads { i < (next part.old).full → Reads (D.medium d.old) (ring_page (next part.old) i) (scratch_of part.new) (is_ok result) (D.medium d.new) }
         ensures loads { MatchResult result (λ r. Loaded (D.medium d.old) part.old self.now i r (D.medium d.new) part.new) (λ _. Lost (D.medium d.old) (D.medium d.new)) }
+        ensures intact { Intact (D.medium d.new) part.new self.now }
+        ensures head { next_of part.new ≡ next_of part.old }
+        ensures frames { frames_of part.new ≡ frames_of part.old }
         ensures tied { D.tie d.new ≡ D.tie d.old }
     {
         if i < next_head(part).full() {

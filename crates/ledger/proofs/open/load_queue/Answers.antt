@@ -27,6 +27,9 @@ returns-in_err-places-clause-aside g c =
     let k = c.loop-i.invariant.took in
     aside_trans _ _ _ k.aside (only_aside _ _ (lent c.loop-i.room c.load_queue_page.new.words k.ring.room c.load_queue_page.auto.words).only)
 
+pub returns-in_err-places-clause-tied : goal.returns-in_err-places-clause-tied
+returns-in_err-places-clause-tied g c = c.load_queue_page.ensures.tied ∙ c.loop-i.invariant.tied
+
 pub add_page-queue-requires-clause-few : goal.add_page-queue-requires-clause-few
 add_page-queue-requires-clause-few g c =
     let h = c.requires.raised in

@@ -3,6 +3,7 @@ use Rattle.std.proofs.lemmas.Result.{err_from_is_err_and}
 use Rattle.store.specs.Head.{Head}
 use Rattle.store.proofs.Comes.{read_lost}
 use Rattle.store.proofs.Queued.{loaded_ring, loaded_head}
+use Rattle.store.proofs.Views.{intact_part}
 use Rattle.store.proofs.Store.load_queue_page.Goals as goal
 use Rattle.store.proofs.Store.load_queue_page.Goals.{then-i-full+in_ok-load_ring_page, else-i-full}
 
@@ -26,4 +27,13 @@ returns-clause-loads g c =
           let y = w.next_to_scratch.ensures in
           rw (w.d-is) (loaded_head _ c.args.part.now c.if-i-full.part c.args.self.now c.args.i c.places_on.result c.places_on.ensures.start c.places_on.ensures.end (omega (arith, w.if-i-full.false, f, c.requires.page)) c.requires.intact
           (rw (w.part-is) y.scratch) c.if-i-full.array_long (rw (w.part-is) y.head) (rw (w.part-is) y.frames))
+    ]
+
+pub returns-clause-intact : goal.returns-clause-intact
+returns-clause-intact g c =
+    elim c.if-i-full.branch [
+      | then-i-full+in_ok-load_ring_page w ↦ rw (w.d-is) (rw (w.part-is) w.in_ok-load_ring_page.ensures.intact)
+      | else-i-full w ↦
+          let y = w.next_to_scratch.ensures in
+          rw (w.d-is) (intact_part _ c.args.part.now c.if-i-full.part c.args.self.now c.if-i-full.array_long (rw (w.part-is) y.frames) (rw (w.part-is) y.head) c.requires.intact)
     ]
