@@ -14,22 +14,23 @@ use Rattle.deals.proofs.Orders.{order_long, last_few}
 use Rattle.deals.proofs.Ages.{set_same, set_other, under_older, line_room, line_asks, line_served, line_none, line_turns, line_tells, line_young}
 
 -- three words of what is asked are written
-pub only_ask : (r t : List ℕ) (c : ℕ) → Sound r → c < 32 → Off (259584 + 3 * c) 3 r t → OnlyAsk c r t
-only_ask r t c i l f =
-    record {
-      sound = record {
-        wide = f.long ∙ i.wide;
-        short = λ e h. rw (count_same e h) (i.short e h);
-        most = rw waiting_same i.most;
-        few = λ k h. let g : k < waiting_in r = omega (arith, waiting_same) in rw (f.same (259712 + k) (inr (omega arith))) (i.few k g);
-      };
-      ops = λ e h x. kept_op r t e (off_kept (259584 + 3 * c) 3 r t (259584 + 3 * e) 3 f (elim (cases_lt e c) [ inl g ↦ inl (omega arith) | inr g ↦ inr (elim (cases_eq e c) [ inl q ↦ absurd (x q) | inr q ↦ omega arith ]) ]));
-      lines = lines_same;
-      deals = λ s d e h. keeps_same r t e (s.clerk e).deal (count_same e h) (lines_same e h) (d e h);
-      order = kept_order r t f.long (off_kept (259584 + 3 * c) 3 r t 259712 33 f (inr (omega arith)));
-      waiting = waiting_same;
-      rest = kept_rest r t f.long (off_kept (259584 + 3 * c) 3 r t 98304 161280 f (inl (omega arith)));
-    }
+pub only_ask : (r t : List ℕ) (c : ℕ) → Sound r → c < 32 → Off (259584 + 3 * c) 3 r t → OnlyAsk c r t × SameLines r t
+only_ask r t c i l f = (
+  record {
+    sound = record {
+      wide = f.long ∙ i.wide;
+      short = λ e h. rw (count_same e h) (i.short e h);
+      most = rw waiting_same i.most;
+      few = λ k h. let g : k < waiting_in r = omega (arith, waiting_same) in rw (f.same (259712 + k) (inr (omega arith))) (i.few k g);
+    };
+    ops = λ e h x. kept_op r t e (off_kept (259584 + 3 * c) 3 r t (259584 + 3 * e) 3 f (elim (cases_lt e c) [ inl g ↦ inl (omega arith) | inr g ↦ inr (elim (cases_eq e c) [ inl q ↦ absurd (x q) | inr q ↦ omega arith ]) ]));
+    deals = λ s d e h. keeps_same r t e (s.clerk e).deal (count_same e h) (lines_same e h) (d e h);
+    order = kept_order r t f.long (off_kept (259584 + 3 * c) 3 r t 259712 33 f (inr (omega arith)));
+    waiting = waiting_same;
+    rest = kept_rest r t f.long (off_kept (259584 + 3 * c) 3 r t 98304 161280 f (inl (omega arith)));
+  },
+  lines_same,
+)
   where
     count_same : (e : ℕ) → e < 32 → count_at t e ≡ count_at r e
     count_same e h = f.same (259680 + e) (inr (omega arith))

@@ -86,22 +86,22 @@ module _ (r then : List ℕ) (m : ℕ) (q : List ℕ) (i : Sound r) (stood : Off
         few = λ k h. let l : k < m = omega (arith, count_is) in rw (word_is k l) (few k (omega arith));
       }
 
-  pub stands : (order_of (set then 259744 m) ≡ q) × OnlyOrder r (set then 259744 m)
+  pub stands : (order_of (set then 259744 m) ≡ q) × OnlyOrder r (set then 259744 m) × SameLines r (set then 259744 m)
   unfolding last
   stands = (
     order_last,
     record {
       sound = sound_last;
       ops = λ c h. kept_op r last c (elsewhere (259584 + 3 * c) 3 (omega arith));
-      lines = lines_same;
       deals = λ s d c h. keeps_same r last c (s.clerk c).deal (count_same c h) (lines_same c h) (d c h);
       rest = kept_rest r last same_length (elsewhere 98304 161280 (omega arith));
     },
+    lines_same,
   )
 
 -- one more stands last
 pub joined : (r : List ℕ) (who : ℕ) → Sound r → who < 32 → waiting_in r < 32
-    → (order_of (set (set r (259712 + waiting_in r) who) 259744 (waiting_in r + 1)) ≡ order_of r ++ who ∷ []) × OnlyOrder r (set (set r (259712 + waiting_in r) who) 259744 (waiting_in r + 1))
+    → (order_of (set (set r (259712 + waiting_in r) who) 259744 (waiting_in r + 1)) ≡ order_of r ++ who ∷ []) × OnlyOrder r (set (set r (259712 + waiting_in r) who) 259744 (waiting_in r + 1)) × SameLines r (set (set r (259712 + waiting_in r) who) 259744 (waiting_in r + 1))
 unfolding order_of
 joined r who i few most =
     let n : ℕ = waiting_in r in
@@ -114,7 +114,7 @@ joined r who i few most =
 
 -- one is gone; y: the words of those who had asked, then
 pub left : (r y : List ℕ) (place k : ℕ) → Sound r → place < waiting_in r → k ≡ waiting_in r → length y ≡ k → take (length (take k (drop 259712 r)) - 1) y ≡ remove (take k (drop 259712 r)) place
-    → (order_of (set (put_mid 259712 k r y) 259744 (waiting_in r - 1)) ≡ remove (order_of r) place) × OnlyOrder r (set (put_mid 259712 k r y) 259744 (waiting_in r - 1))
+    → (order_of (set (put_mid 259712 k r y) 259744 (waiting_in r - 1)) ≡ remove (order_of r) place) × OnlyOrder r (set (put_mid 259712 k r y) 259744 (waiting_in r - 1)) × SameLines r (set (put_mid 259712 k r y) 259744 (waiting_in r - 1))
 unfolding order_of
 left r y place k i h e long is =
     let n : ℕ = waiting_in r in

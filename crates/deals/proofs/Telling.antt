@@ -3,6 +3,8 @@ use Rattle.std.proofs.Common.{◌≡◌, ℕ, List, [], ◌∷◌, refl, ap, ◌
 use Rattle.node.specs.Pairs as P
 use Rattle.lines.specs.declared.line.Line.{Line}
 use Rattle.lines.specs.declared.line.Line.TheVariants.{Idle, Wrote, Cleared, Stale, Read, Scanned, Marked}
+use Rattle.lines.specs.declared.ring.Ring.{Ring}
+use Rattle.lines.specs.Tables.{queue_lines}
 use Rattle.view.specs.Writes.{with_lines, Rising}
 use Rattle.view.proofs.Done.{rising_lines}
 use Rattle.deals.specs.Deals.{Said, leaves, step}
@@ -12,6 +14,7 @@ use Rattle.deals.specs.Tables.{Keeps, lines_in}
 use Rattle.deals.proofs.Effects.{table_leaves}
 use Rattle.deals.specs.Paired.{book_of, with_writes}
 use Rattle.deals.specs.Told.{seen, GetTold, DropTold, NextTold, LeavesTold}
+use Rattle.deals.specs.Queued.{queued, GetQueued, DropQueued, NextQueued, LeavesQueued}
 use Rattle.deals.proofs.Pairing.{rising_up, find_is, next_is, onto_is}
 
 -- the writes of lines, done to pairs
@@ -50,3 +53,19 @@ drop_told t room c k ss u i = ap (find k) (left t room c ss u i) ∙ find_is k (
 pub next_told : NextTold
 unfolding step
 next_told t room c k ss u i = ap (next_in k) (left t room c ss u i) ∙ next_is k (seen t room c)
+
+-- THE TREE'S PAIRS AFTER THE QUEUE
+after_queue : (t : List (ℕ × ℕ)) (room : List ℕ) (r : Ring) → Rising t → Rising (queued t room r)
+after_queue t room r u = rising_lines t (queue_lines room r) u
+
+pub get_queued : GetQueued
+get_queued t room r c k ss u i = get_told (queued t room r) room c k ss (after_queue t room r u) i
+
+pub drop_queued : DropQueued
+drop_queued t room r c k ss u i = drop_told (queued t room r) room c k ss (after_queue t room r u) i
+
+pub next_queued : NextQueued
+next_queued t room r c k ss u i = next_told (queued t room r) room c k ss (after_queue t room r u) i
+
+pub leaves_queued : LeavesQueued
+leaves_queued t room r c ss u i = leaves_told (queued t room r) room c ss (after_queue t room r u) i

@@ -15,5 +15,6 @@ pub mod Drives
 pub mod Ages
 pub mod Paired
 pub mod Told
+pub mod Queued
 pub mod Holds
 pub mod Sits

@@ -90,7 +90,6 @@ Asks room s = (c : ℕ) → c < 32 → is_under (s.clerk c).now' ≡ true → (g
 pub record OnlyOrder (room then : List ℕ) : Type 0 where
   pub sound : Sound then
   pub ops : (c : ℕ) → c < 32 → op_at then c ≡ op_at room c
-  pub lines : SameLines room then
   pub deals : (s : State) → Desk room s → Desk then s
   pub rest : rest_of then ≡ rest_of room
 
@@ -98,7 +97,6 @@ pub record OnlyOrder (room then : List ℕ) : Type 0 where
 pub record OnlyAsk (c : ℕ) (room then : List ℕ) : Type 0 where
   pub sound : Sound then
   pub ops : (e : ℕ) → e < 32 → (e ≢ c) → op_at then e ≡ op_at room e
-  pub lines : SameLines room then
   pub deals : (s : State) → Desk room s → Desk then s
   pub order : order_of then ≡ order_of room
   pub waiting : waiting_in then ≡ waiting_in room

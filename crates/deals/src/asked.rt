@@ -1,6 +1,6 @@
 // What each clerk asks, in three words.
 ghost use Rattle.std.specs.Prelude.{◌≡◌};
-ghost use Rattle.deals.specs.Tables.{op_of, op_at, OnlyAsk};
+ghost use Rattle.deals.specs.Tables.{op_of, op_at, SameLines, OnlyAsk};
 ghost use Rattle.deals.specs.Kinds.{kind_of};
 ghost use Rattle.deals.specs.Loans.{SameRoom};
 
@@ -94,6 +94,7 @@ impl<'a> TablesMut<'a> {
     pub fn write_op(&mut self, c: Clerk, o: Op)
         ensures lent { SameRoom self.old self.new }
         ensures written { op_at self.new.room.now c ≡ o }
+        ensures lines { SameLines self.old.room.now self.new.room.now }
         ensures others { OnlyAsk c self.old.room.now self.new.room.now }
     {
         let words: [u64; ASK_WORDS] = o.into();

@@ -1,7 +1,7 @@
 // Those who have asked, in the order in which they did.
 ghost use Rattle.std.specs.Prelude.{◌≡◌, ℕ, ◌+◌, ◌-◌, ◌<◌, ◌≤◌, [], ◌∷◌, ◌++◌, length, take, slice_index};
 ghost use Rattle.std.specs.List.{remove};
-ghost use Rattle.deals.specs.Tables.{OnlyOrder, waiting_in, order_of};
+ghost use Rattle.deals.specs.Tables.{SameLines, OnlyOrder, waiting_in, order_of};
 ghost use Rattle.deals.specs.Loans.{SameRoom};
 
 use super::layout::{ORDER_AT, WAITING_AT};
@@ -54,6 +54,7 @@ impl<'a> TablesMut<'a> {
         requires { waiting_in self.old.room.now < 32 }
         ensures lent { SameRoom self.old self.new }
         ensures order { order_of self.new.room.now ≡ order_of self.old.room.now ++ who ∷ [] }
+        ensures lines { SameLines self.old.room.now self.new.room.now }
         ensures others { OnlyOrder self.old.room.now self.new.room.now }
     {
         let room = &mut *self.room;
@@ -67,6 +68,7 @@ impl<'a> TablesMut<'a> {
         requires { place < waiting_in self.old.room.now }
         ensures lent { SameRoom self.old self.new }
         ensures order { order_of self.new.room.now ≡ remove (order_of self.old.room.now) place }
+        ensures lines { SameLines self.old.room.now self.new.room.now }
         ensures others { OnlyOrder self.old.room.now self.new.room.now }
     {
         let room = &mut *self.room;

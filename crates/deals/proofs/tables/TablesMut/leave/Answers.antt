@@ -8,4 +8,4 @@ invariant_of-self c = record { sound = (left c.args.self.now.room.now c.close_up
 pub returns : goal.returns
 returns c =
     let closed = left c.args.self.now.room.now c.close_up.new.order c.args.place _ c.args.self.now.sound c.requires (omega arith) (omega (arith, c.args.self.now.sound.wide)) c.close_up.ensures in
-    record { lent = refl; order = closed.0; others = closed.1 }
+    record { lent = refl; order = closed.0; lines = closed.2; others = closed.1 }
