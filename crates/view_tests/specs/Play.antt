@@ -11,6 +11,11 @@ use Rattle.view.specs.Writes.{Rising}
 abbrev pub free : Asks
 free = record { left = 0; get = 0; next = 0; change = 0 }
 
+-- what clauses see of a play: the pairs that are found by the queue and the tree, and the queue's ring
+pub record Found : Type 0 where
+  pub pairs : List (ℕ × ℕ)
+  pub ring : Ring
+
 pub record Sane (t : List (ℕ × ℕ)) (room ns : List ℕ) (q : Ring) : Type 0 where
   pub counts : Counts ns
   pub queue : QueueIn room q

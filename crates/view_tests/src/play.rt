@@ -21,8 +21,8 @@ use view::commit::take_in;
 use view::look::{drop_line, look, next_pair};
 use view::seen::View;
 
-/// Clauses see the pairs that are found by the queue and the tree. Each step takes the play and gives it back: where the
-/// power goes, the play is over.
+/// Clauses see the pairs that are found by the queue and the tree, and the queue's ring. Each step takes the play and gives it back:
+/// where the power goes, the play is over.
 #[derive(Drop)]
 pub struct Play {
     index: PairList,
@@ -32,14 +32,13 @@ pub struct Play {
 }
 
 impl Model for Play {
-    ghost use Rattle.std.specs.Prelude.{ℕ, List};
     ghost use Rattle.lines.specs.Tables.{queue_lines};
     ghost use Rattle.view.specs.Writes.{with_lines};
-    ghost use Rattle.view_tests.specs.Play.{Sane};
+    ghost use Rattle.view_tests.specs.Play.{Found, Sane};
 
-    ghost Value = { List (ℕ × ℕ) };
+    ghost Value = { Found };
 
-    ghost view = { λ p. with_lines p.index.items.items (queue_lines p.room.items p.queue) };
+    ghost view = { λ p. record { pairs = with_lines p.index.items.items (queue_lines p.room.items p.queue); ring = p.queue } };
 
     ghost invariant = { λ p. Sane p.index.items.items p.room.items p.counts p.queue };
 }
@@ -60,7 +59,7 @@ fn say(room: &mut [u64], counts: &mut [usize], deal: usize, line: Line)
 impl Play {
     /// Nothing is there yet.
     pub fn new(alloc: Global) -> Result<Play, AllocError>
-        ensures { IfOk result (λ p. p ≡ []) }
+        ensures { IfOk result (λ p. p.pairs ≡ []) }
     {
         Ok(Play {
             index: PairList {
@@ -108,7 +107,7 @@ impl Play {
         let deal = clerk.index();
         let count = self.counts[deal];
         if self.queue.count + count <= QUEUE_LINES {
-            // Clauses see a play as its pairs, so no method could say which view it gives: each that needs one makes it.
+            // Clauses see a play as its pairs and its ring, so no method could say which view it gives: each that needs one makes it.
             let view = View {
                 deal,
                 count,
@@ -122,7 +121,7 @@ impl Play {
 
     // The front record goes into the tree, if there is one. Nobody sees another thing for it.
     fn work(mut self) -> Result<Play, Gone>
-        ensures { IfOk result (λ p. p ≡ self) }
+        ensures { IfOk result (λ p. p.pairs ≡ self.pairs) }
     {
         if self.queue.count > 0 {
             self.queue = apply_front(
@@ -137,7 +136,7 @@ impl Play {
 
     /// All records go into the tree.
     pub fn work_all(self) -> Result<Play, Gone>
-        ensures { IfOk result (λ p. p ≡ self) }
+        ensures { IfOk result (λ p. p.pairs ≡ self.pairs) }
     {
         let records = self.queue.count;
         (0..records).try_fold(self, |play, _| play.work())
@@ -194,7 +193,9 @@ impl Play {
     }
 
     /// The deal drops the keys 1 to n.
-    pub fn drop_row(self, clerk: Clerk, n: u64) -> Result<Play, Gone> {
+    pub fn drop_row(self, clerk: Clerk, n: u64) -> Result<Play, Gone>
+        ensures { IfOk result (λ p. p ≡ self) }
+    {
         (1..=n).try_fold(self, |play, k| play.drop_key(clerk, k))
     }
 }

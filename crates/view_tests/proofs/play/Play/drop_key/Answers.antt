@@ -37,4 +37,4 @@ returns c =
     ∙ (c.say.ensures.queue q
     ∙ (ap (λ w. queue_lines w q) c.as_mut_slice-2.ensures.value
     ∙ asked_queue t u p.room.len p.room.items a b q c.as_mut_slice.ensures.value full e.asked.same c.drop_line.auto.room c.drop_line.ensures.tables)) in
-    same_seen t u _ _ e.asked.same queue ∙ c.self.view_is
+    ap (λ s. record { pairs = s; ring = q }) (same_seen t u _ _ e.asked.same queue) ∙ c.self.view_is

@@ -1,4 +1,4 @@
-use Rattle.std.proofs.Common.{◌∙◌, arith}
+use Rattle.std.proofs.Common.{ap, ◌∙◌, arith}
 use Rattle.view_tests.proofs.Sanely.{asked_sane, asked_seen}
 use Rattle.view_tests.proofs.play.Play.show_at.Goals as goal
 
@@ -11,6 +11,6 @@ invariant_of-self c =
 pub returns : goal.returns
 returns c =
     let p = c.self.inside in
-    asked_seen p.index.items.items c.look.new.index.items.items p.room.len p.room.items c.as_mut_slice.result.now c.look.new.room p.queue
-    c.as_mut_slice.ensures.value (omega arith) c.in_ok-word.ensures.asked.same c.look.auto.room c.look.ensures.tables
+    ap (λ s. record { pairs = s; ring = p.queue }) (asked_seen p.index.items.items c.look.new.index.items.items p.room.len p.room.items c.as_mut_slice.result.now c.look.new.room p.queue
+    c.as_mut_slice.ensures.value (omega arith) c.in_ok-word.ensures.asked.same c.look.auto.room c.look.ensures.tables)
     ∙ c.self.view_is
