@@ -1,6 +1,6 @@
 -- A turn of the loop that moves what stays to the front.
-use Rattle.std.proofs.Common.{◌≡◌, ℕ, ◌+◌, ◌<◌, ◌≤◌, List, length, get_or, take, drop, set, swap, Bool, true, false, sym, ◌∙◌, arith, rules, length-set, drop-set-lt}
-use Rattle.std.proofs.lemmas.List.{same_lists, places, get_or-set_same, take-set}
+use Rattle.std.proofs.Common.{◌≡◌, ℕ, ◌+◌, ◌<◌, ◌≤◌, List, length, get_or, take, drop, set, swap, Bool, true, false, sym, ap, ◌∙◌, arith, rules, length-set, drop-set-lt}
+use Rattle.std.proofs.lemmas.List.{same_lists, places, get_or-set_same, set-set, take-set}
 use Rattle.std.proofs.lemmas.List.Edits.{swap_is}
 use Rattle.std.proofs.lemmas.Bool.{cases_eq}
 use Rattle.std.proofs.RetainMut.{RetainMutInvariant, sift_on}
@@ -25,6 +25,14 @@ module _ {S X : Type 0} (R : S → X → Bool → S → X → Type 0) (s₀ : S)
   retained called =
       let next = sift_on R s₀ xs s t ys k i x y le lt is h true called in
       (sym (drop-swap ys k i y le lt) ∙ next.0, rw (← take-swap ys k i y le lt) next.1)
+
+  -- where all before it stayed, an item already stands where it goes
+  pub retained_there : i ≤ k → R s x true t y → RetainMutInvariant R s₀ xs t (set ys i y) (k + 1) (i + 1)
+  retained_there ge called =
+      let next = sift_on R s₀ xs s t ys k i x y le lt is h true called in
+      let there : k ≡ i = omega arith in
+      let once : set (set ys i y) k y ≡ set ys i y = ap (λ k. set (set ys i y) k y) there ∙ set-set ys i y y in
+      rw once at next
 
   pub discarded : R s x false t y → RetainMutInvariant R s₀ xs t (set ys i y) k (i + 1)
   discarded called =

@@ -37,6 +37,14 @@ impl<'a> Lent<'a, Due> {
             .filter(|due| due.comes())
             .map(|due| due.choice)
             .last();
+        // Mostly none comes. Then no item needs a look at whether it stays.
+        if came.is_none() {
+            self.retain_mut(|due| {
+                due.asks = due.asks.saturating_sub(1);
+                true
+            });
+            return None;
+        }
         self.retain_mut(|due| {
             let comes = due.comes();
             due.asks = due.asks.saturating_sub(1);

@@ -96,10 +96,12 @@ fn retain_in_front<T, F: FnMut(&mut T) -> bool>(items: &mut [T], mut keep: F) ->
     ensures bound { result ≤ length items.old }
 {
     let mut kept = 0;
-    // By its place, since each item may change places with one before it.
+    // By its place, since each item may change places with one before it. Mostly nothing goes, and then none does.
     for i in 0..items.len() {
         if keep(&mut items[i]) {
-            items.swap(kept, i);
+            if kept < i {
+                items.swap(kept, i);
+            }
             kept += 1;
         }
     }

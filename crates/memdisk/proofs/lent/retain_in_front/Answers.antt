@@ -2,8 +2,8 @@ use Rattle.std.proofs.Common.{◌<◌, length, arith, of_calls}
 use Rattle.std.specs.Fn.{CalledAtMut}
 use Rattle.std.proofs.lemmas.List.{get_or_default}
 use Rattle.std.proofs.RetainMut.{Called-Mut, retain_mut_end}
-use Rattle.memdisk.proofs.Retaining.{retained, discarded}
-use Rattle.memdisk.proofs.lent.retain_in_front.Goals.{then-keep, else-keep}
+use Rattle.memdisk.proofs.Retaining.{retained, retained_there, discarded}
+use Rattle.memdisk.proofs.lent.retain_in_front.Goals.{then-keep, else-keep, then-kept-i, else-kept-i}
 use Rattle.memdisk.proofs.lent.retain_in_front.Goals as goal
 
 pub loop-i-preserved : goal.loop-i-preserved
@@ -16,9 +16,14 @@ loop-i-preserved g c =
       | then-keep w ↦ (
         omega arith,
         search of_calls,
-        rw (w.items-is, w.kept-is, w.swap.ensures.after)
-            (retained R c.args.keep c.args.items.now at.keep _ at.items at.kept at.i _ _ at.invariant.0 within
-            (get_or_default at.items at.i _ _ within) at.invariant.2 (rw w.if-keep.true at called)),
+        elim w.if-kept-i.branch [
+          | then-kept-i v ↦ rw (w.items-is, v.items-is, w.kept-is, v.swap.ensures.after)
+              (retained R c.args.keep c.args.items.now at.keep _ at.items at.kept at.i _ _ at.invariant.0 within
+              (get_or_default at.items at.i _ _ within) at.invariant.2 (rw w.if-keep.true at called))
+          | else-kept-i v ↦ rw (w.items-is, v.items-is, w.kept-is)
+              (retained_there R c.args.keep c.args.items.now at.keep _ at.items at.kept at.i _ _ at.invariant.0 within
+              (get_or_default at.items at.i _ _ within) at.invariant.2 v.if-kept-i.false (rw w.if-keep.true at called))
+        ],
       )
       | else-keep w ↦ (
         omega arith,
